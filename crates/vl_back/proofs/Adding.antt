@@ -6,15 +6,15 @@ use Rattle.vl_back.specs.Failing.{add_failed}
 use Rattle.vl_back.specs.Tables.{AreSpellable, IsSpellable}
 use Rattle.vl_back.specs.declared.stage_fail.StageFail.{StageFail}
 use Rattle.vl_back.specs.declared.stage_fail.StageFail.TheVariants as why
-use Rattle.vl_block.specs.Entries.{IsEntry}
+use Rattle.vl_table.specs.body.Entries.{IsEntry}
 use Rattle.vl_model.specs.Cursors.{Gives}
 use Rattle.vl_model.specs.Placement.{placed}
 use Rattle.vl_model.specs.declared.entry.Entry.{Entry}
 use Rattle.vl_model.specs.Formats.{table_format}
-use Rattle.vl_table_writer.specs.Writing.{Appended, IsWriting, MayCome}
-use Rattle.vl_table_writer.specs.declared.add_fail.AddFail.{AddFail}
-use Rattle.vl_table_writer.specs.declared.add_fail.AddFail.TheVariants as add
-use Rattle.vl_table_writer.specs.declared.writer.TableWriter.{TableWriter}
+use Rattle.vl_table.specs.writer.Writing.{Appended, IsWriting, MayCome}
+use Rattle.vl_table.specs.declared.writer.add_fail.AddFail.{AddFail}
+use Rattle.vl_table.specs.declared.writer.add_fail.AddFail.TheVariants as add
+use Rattle.vl_table.specs.declared.writer.table_writer.TableWriter.{TableWriter}
 
 -- Of the entries that were left some were added behind others, and the rest is left.
 pub record AddsFront (number : ℕ) (es left : List Entry) (now : Option (List Entry)) (writer : TableWriter) (given : List ℕ)

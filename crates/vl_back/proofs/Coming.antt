@@ -2,13 +2,13 @@
 use Rattle.std.proofs.Common.{List, [], ◌∷◌, ◌++◌}
 use Rattle.std.specs.List.{AllByRecursion}
 use Rattle.vl_back.specs.Tables.{AreSpellable, IsSpellable}
-use Rattle.vl_block.specs.Blocks.{entries}
-use Rattle.vl_block.specs.Entries.{IsEntry}
-use Rattle.vl_block.specs.Lists.{IsNext, last_item}
+use Rattle.vl_table.specs.body.Blocks.{entries}
+use Rattle.vl_table.specs.body.Entries.{IsEntry}
+use Rattle.vl_table.specs.body.Lists.{IsNext, last_item}
 use Rattle.vl_model.specs.Formats.{table_format}
 use Rattle.vl_model.specs.declared.entry.Entry.{Entry}
-use Rattle.vl_run.specs.laws.OrderLaws.{IsRising, rising}
-use Rattle.vl_table_writer.specs.Writing.{MayCome}
+use Rattle.vl_model.specs.laws.OrderLaws.{IsRising, rising}
+use Rattle.vl_table.specs.writer.Writing.{MayCome}
 
 pub spellable_at : (front : List Entry) (e : Entry) (rest : List Entry) → AllByRecursion IsSpellable (front ++ e ∷ rest) → IsSpellable e
 spellable_at [] e rest each = each.0

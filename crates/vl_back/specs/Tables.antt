@@ -3,8 +3,8 @@ use Rattle.std.specs.Prelude.{◌≡◌, ◌≤◌, ℕ, true, List, length}
 use Rattle.std.specs.Arc.{arc_value}
 use Rattle.std.specs.List.{AllByRecursion}
 use Rattle.vl_back.specs.declared.table.StagedTable.{StagedTable}
-use Rattle.vl_block.specs.Bytes.{table_bytes}
-use Rattle.vl_block.specs.Shapes.{IsShapeOf}
+use Rattle.vl_table.specs.body.Bytes.{table_bytes}
+use Rattle.vl_table.specs.body.Shapes.{IsShapeOf}
 use Rattle.vl_model.specs.Entries.{in_order}
 use Rattle.vl_model.specs.Formats.{table_format}
 use Rattle.vl_model.specs.Keys.{is_key_length}

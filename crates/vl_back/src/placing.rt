@@ -2,7 +2,7 @@
 
 ghost use Rattle.std.specs.Prelude.{◌≡◌, ◌<◌, ◌^◌};
 ghost use Rattle.vl_back.specs.Tables.{IsSpellable, IsSpellableBody};
-ghost use Rattle.vl_block.specs.Entries.{IsBody, IsEntry, IsPointer};
+ghost use Rattle.vl_table.specs.body.Entries.{IsBody, IsEntry, IsPointer};
 ghost use Rattle.vl_model.specs.Formats.{table_format};
 ghost use Rattle.vl_model.specs.Placement as model;
 

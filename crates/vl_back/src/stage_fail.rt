@@ -5,7 +5,7 @@ ghost use Rattle.vl_back.specs.declared.stage_fail.StageFail.TheVariants as why;
 use std::alloc::{AllocError, AllocFailed};
 use thiserror::Error;
 use vl_disk::NoMemory;
-use vl_table_writer::AddFail;
+use vl_table::AddFail;
 
 /// Why a flush wasn't staged.
 #[derive(Clone, Copy, Debug, PartialEq, Eq, Error)]

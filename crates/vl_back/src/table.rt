@@ -4,15 +4,14 @@ ghost use Rattle.std.specs.Prelude.{◌≡◌, ◌++◌, ℕ, List, Some, map, I
 ghost use Rattle.vl_back.specs.Tables.{AreSpellable, IsTableOf};
 ghost use Rattle.vl_model.specs.Placement as model;
 ghost use Rattle.vl_model.specs.declared.entry.Entry.{Entry};
-ghost use Rattle.vl_table_writer.specs.Writing.{IsWriting};
+ghost use Rattle.vl_table.specs.writer.Writing.{IsWriting};
 
 use crate::StageFail;
 use crate::placing::{numbers_fit, placed};
 use std::alloc::{AllocError, Global};
 use std::sync::Arc;
-use vl_block::TableShape;
 use vl_model::Cursor;
-use vl_table_writer::{TableWriter, Tail};
+use vl_table::{TableShape, TableWriter, Tail};
 
 /// A table's bytes, and what is known of it beside its blocks, so that it can be used once it stands
 /// in a file.

@@ -12,7 +12,7 @@ use Rattle.vl_collect.specs.Batches.{IsBatch, IsLawful}
 use Rattle.vl_collect.specs.Taking.{candidate_of, candidates}
 use Rattle.vl_collect.specs.declared.batch.Found.{Found}
 use Rattle.vl_model.specs.Formats.{log_format}
-use Rattle.vl_layout.specs.Relocation.{Candidate, is_moved, moved_of}
+use Rattle.vl_engine_model.specs.Relocation.{Candidate, is_moved, moved_of}
 use Rattle.vl_model.specs.Winners.{exact, is_far_to, leads_to, wins_exactly}
 use Rattle.vl_model.specs.declared.entry.Body.{Body}
 use Rattle.vl_model.specs.declared.entry.Body.TheVariants.{Inline, Gone, Far, Logged}

@@ -6,8 +6,8 @@ use Rattle.std.proofs.lemmas.List.Sums.{sum_by-append, sum_by-cons}
 use Rattle.std.specs.Prelude.{Bool, true, false, Some, None}
 use Rattle.vl_collect.specs.Taking.{behind, candidate_of, candidates, one_of, outcome, record_of, records_as}
 use Rattle.vl_collect.specs.declared.batch.Found.{Found}
-use Rattle.vl_layout.specs.Logs.{LogRecord}
-use Rattle.vl_layout.specs.Relocation.{Batched, Candidate, batch_with, found_in, has_room, taken_from, value_lengths, with_first}
+use Rattle.vl_engine_model.specs.Logs.{LogRecord}
+use Rattle.vl_engine_model.specs.Relocation.{Batched, Candidate, batch_with, found_in, has_room, taken_from, value_lengths, with_first}
 use Rattle.vl_model.specs.Keys.{value_length}
 use Rattle.vl_model.specs.declared.entry.Entry.{Entry}
 use Rattle.vl_seglog.specs.declared.frame.ReadRecord.{ReadRecord}

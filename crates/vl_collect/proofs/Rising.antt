@@ -11,7 +11,7 @@ use Rattle.std.specs.Prelude.{Bool, true, false, nat_le, if◌then◌else◌}
 use Rattle.vl_collect.specs.Batches.{IsLawful, IsOf, MayMove, Rise, found_place, read_place, rise_from}
 use Rattle.vl_collect.specs.Taking.{candidates}
 use Rattle.vl_collect.specs.declared.batch.Found.{Found}
-use Rattle.vl_layout.specs.Relocation.{Candidate}
+use Rattle.vl_engine_model.specs.Relocation.{Candidate}
 use Rattle.vl_model.specs.Formats.{log_format, record_head}
 use Rattle.vl_model.specs.Frames.{frame_length, moved_length, record_length}
 use Rattle.vl_model.specs.declared.change.Change.{Change}

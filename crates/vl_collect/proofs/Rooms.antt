@@ -5,7 +5,7 @@ use Rattle.std.proofs.lemmas.List.Sums.{sum_by-cons}
 use Rattle.std.specs.Prelude.{Bool, true, false, ◌==◌, ◌&&◌, ◌||◌, nat_le, nat_lt}
 use Rattle.vl_collect.specs.Taking.{candidate_of, candidates}
 use Rattle.vl_collect.specs.declared.batch.Found.{Found}
-use Rattle.vl_layout.specs.Relocation.{Candidate, has_room, value_lengths}
+use Rattle.vl_engine_model.specs.Relocation.{Candidate, has_room, value_lengths}
 use Rattle.vl_model.specs.Keys.{value_length}
 use Rattle.vl_model.specs.Limits.{max_batch_records, max_batch_bytes}
 

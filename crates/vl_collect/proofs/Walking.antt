@@ -13,9 +13,9 @@ use Rattle.vl_collect.specs.declared.batch.Found.{Found}
 use Rattle.vl_collect.specs.declared.pass.At.{At}
 use Rattle.vl_frame.specs.Runs.{Grammar, ReadsAs, StandsNone, item_frame}
 use Rattle.vl_frame.specs.laws.RunLaws as runs
-use Rattle.vl_layout.specs.Logs.{LogRecord, committed_records, frame_records, records_from, relocated_records}
-use Rattle.vl_layout.specs.Relocation as layout
-use Rattle.vl_layout.specs.Relocation.{Batched, Candidate}
+use Rattle.vl_engine_model.specs.Logs.{LogRecord, committed_records, frame_records, records_from, relocated_records}
+use Rattle.vl_engine_model.specs.Relocation as layout
+use Rattle.vl_engine_model.specs.Relocation.{Batched, Candidate}
 use Rattle.vl_model.specs.Frames.{frame_length, moved_length, record_length}
 use Rattle.vl_model.specs.declared.change.Change.{Change}
 use Rattle.vl_model.specs.declared.log_frame.LogFrame.{LogFrame}

@@ -1,43 +1,29 @@
 -- Why a call of a pass failed: what was counted while it read.
 use Rattle.std.specs.Prelude.{◌≡◌, ◌⊎◌, ℕ, Bool, Result, Err}
-use Rattle.vl_collect.specs.declared.fault.PassFault.{PassFault}
-use Rattle.vl_collect.specs.declared.fault.PassFault.TheVariants.{NoMemory, Disk, Damaged}
+use Rattle.vl_disk.specs.declared.read_fault.ReadFault.{ReadFault}
+use Rattle.vl_disk.specs.declared.read_fault.ReadFault.TheVariants.{NoMemory, Disk, Damaged}
 use Rattle.vl_disk.specs.Faults.{HasCause}
 use Rattle.vl_model.specs.Cursors.{IsCounted}
 use Rattle.vl_seglog.specs.Answers.{Failed, IsNamed}
-use Rattle.vl_seglog.specs.declared.fault.LogFault.{LogFault}
-use Rattle.vl_seglog.specs.declared.fault.LogFault.TheVariants as log
-use Rattle.vl_table.specs.declared.fault.TableFault.{TableFault}
-use Rattle.vl_table.specs.declared.fault.TableFault.TheVariants as table
-
-abbrev pub of_log : LogFault → PassFault
-of_log log.NoMemory = NoMemory
-of_log (log.Disk name) = Disk name
-of_log (log.Damaged name place) = Damaged name place
-
-abbrev pub of_sources : TableFault → PassFault
-of_sources table.NoMemory = NoMemory
-of_sources (table.Disk name) = Disk name
-of_sources (table.Damaged name place) = Damaged name place
 
 -- there may be this fault, where something holds
-abbrev pub MayWhere : Type 0 → (TableFault → Type 0) → TableFault → Type 0
+abbrev pub MayWhere : Type 0 → (ReadFault → Type 0) → ReadFault → Type 0
 MayWhere holds may fault = holds → may fault
 
 -- ---- where the sources alone are asked
 
-pub record LacksMemory (before after : ℕ) (fault : PassFault) : Type 0 where
+pub record LacksMemory (before after : ℕ) (fault : ReadFault) : Type 0 where
   pub is : fault ≡ NoMemory
   pub steady : after ≡ before
 
 -- it is one that the sources may have, and was counted if it says that reading failed
-pub record IsTheirs (is_read : TableFault → Bool) (may : TableFault → Type 0) (before after : ℕ) (fault : PassFault) : Type 0 where
-  pub told : TableFault
-  pub is : fault ≡ of_sources told
+pub record IsTheirs (is_read : ReadFault → Bool) (may : ReadFault → Type 0) (before after : ℕ) (fault : ReadFault) : Type 0 where
+  pub told : ReadFault
+  pub is : fault ≡ told
   pub had : may told
   pub counted : IsCounted (is_read told) before after
 
-abbrev pub FailsLooking : (TableFault → Bool) → (TableFault → Type 0) → (before after : ℕ) → PassFault → Type 0
+abbrev pub FailsLooking : (ReadFault → Bool) → (ReadFault → Type 0) → (before after : ℕ) → ReadFault → Type 0
 FailsLooking is_read may before after fault = LacksMemory before after fault ⊎ IsTheirs is_read may before after fault
 
 -- ---- where the log is read too
@@ -63,27 +49,27 @@ pub record NoneRose (c : Counts) : Type 0 where
   pub files : c.files_after ≡ c.files_before
 
 -- the look-ups failed, and reading the log didn't
-pub record IsOfLooks (is_read : TableFault → Bool) (may : TableFault → Type 0) (c : Counts) (fault : PassFault) : Type 0 where
+pub record IsOfLooks (is_read : ReadFault → Bool) (may : ReadFault → Type 0) (c : Counts) (fault : ReadFault) : Type 0 where
   pub fails : FailsLooking is_read may c.sources_before c.sources_after fault
   pub steady : c.files_after ≡ c.files_before
 
 -- where damage is answered it is there
-abbrev pub IsThere : (ℕ → Type 0) → LogFault → Type 0
-IsThere bad log.NoMemory = Unit {0}
-IsThere bad (log.Disk name) = Unit {0}
-IsThere bad (log.Damaged name place) = bad place
+abbrev pub IsThere : (ℕ → Type 0) → ReadFault → Type 0
+IsThere bad NoMemory = Unit {0}
+IsThere bad (Disk name) = Unit {0}
+IsThere bad (Damaged name place) = bad place
 
-abbrev pub failing : LogFault → Result (Unit {0}) LogFault
+abbrev pub failing : ReadFault → Result (Unit {0}) ReadFault
 failing fault = Err fault
 
 -- Reading the log with this number failed, which was counted if the fault says so, or found damage, which is there.
-pub record IsOfLog (number : ℕ) (bad : ℕ → Type 0) (c : Counts) (fault : PassFault) : Type 0 where
-  pub told : LogFault
-  pub is : fault ≡ of_log told
+pub record IsOfLog (number : ℕ) (bad : ℕ → Type 0) (c : Counts) (fault : ReadFault) : Type 0 where
+  pub told : ReadFault
+  pub is : fault ≡ told
   pub named : IsNamed number (failing told)
   pub damage : IsThere bad told
   pub counted : HasCause c.files_before c.files_after (Failed (failing told))
   pub steady : c.sources_after ≡ c.sources_before
 
-abbrev pub FailsPassing : (TableFault → Bool) → (TableFault → Type 0) → ℕ → (ℕ → Type 0) → Counts → PassFault → Type 0
+abbrev pub FailsPassing : (ReadFault → Bool) → (ReadFault → Type 0) → ℕ → (ℕ → Type 0) → Counts → ReadFault → Type 0
 FailsPassing is_read may number bad c fault = IsOfLooks is_read may c fault ⊎ IsOfLog number bad c fault

@@ -7,9 +7,9 @@ use Rattle.vl_collect.specs.declared.batch.Found.{Found}
 use Rattle.vl_collect.specs.declared.pass.At.{At}
 use Rattle.vl_collect.specs.declared.pass.Pass.{Pass}
 use Rattle.vl_frame.specs.Runs.{ReadsAs}
-use Rattle.vl_layout.specs.Logs.{LogRecord, frame_records, records_from}
-use Rattle.vl_layout.specs.Relocation.{Candidate, next_batch}
-use Rattle.vl_layout.specs.Relocation as layout
+use Rattle.vl_engine_model.specs.Logs.{LogRecord, frame_records, records_from}
+use Rattle.vl_engine_model.specs.Relocation.{Candidate, next_batch}
+use Rattle.vl_engine_model.specs.Relocation as layout
 use Rattle.vl_merge.specs.Marked.{Marked, all_of}
 use Rattle.vl_model.specs.Frames.{frame_length}
 use Rattle.vl_model.specs.declared.entry.Entry.{Entry}

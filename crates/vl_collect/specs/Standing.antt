@@ -2,8 +2,8 @@
 use Rattle.std.specs.Prelude.{◌≡◌, ◌≤◌, ℕ, List, Some}
 use Rattle.std.specs.List.{AllByRecursion}
 use Rattle.vl_collect.specs.declared.pass.At.{At}
-use Rattle.vl_layout.specs.Relocation.{Candidate}
-use Rattle.vl_layout.specs.Shown.{IsThere}
+use Rattle.vl_engine_model.specs.Relocation.{Candidate}
+use Rattle.vl_engine_model.specs.Shown.{IsThere}
 use Rattle.vl_model.specs.Keys.{Stored}
 use Rattle.vl_model.specs.Winners.{Logs}
 use Rattle.vl_model.specs.declared.pointer.Pointer.{Pointer}

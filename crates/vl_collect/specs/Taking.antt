@@ -1,8 +1,8 @@
 -- What a pass has found of its batch, and what is left of its log's records.
 use Rattle.std.specs.Prelude.{◌≡◌, ◌⊎◌, ℕ, List, [], ◌∷◌, ◌++◌, length, map, Option, Some, None}
 use Rattle.vl_collect.specs.declared.batch.Found.{Found}
-use Rattle.vl_layout.specs.Logs.{LogRecord}
-use Rattle.vl_layout.specs.Relocation.{Batched, Candidate, taken_from, value_lengths}
+use Rattle.vl_engine_model.specs.Logs.{LogRecord}
+use Rattle.vl_engine_model.specs.Relocation.{Batched, Candidate, taken_from, value_lengths}
 use Rattle.vl_model.specs.declared.entry.Entry.{Entry}
 use Rattle.vl_seglog.specs.declared.frame.ReadRecord.{ReadRecord}
 

@@ -22,7 +22,7 @@ impl Model for Batch {
     ghost use Rattle.std.specs.Prelude.{List};
     ghost use Rattle.vl_collect.specs.Batches.{IsBatch};
     ghost use Rattle.vl_collect.specs.Taking.{candidates};
-    ghost use Rattle.vl_layout.specs.Relocation.{Candidate};
+    ghost use Rattle.vl_engine_model.specs.Relocation.{Candidate};
 
     ghost Value = { List Candidate };
 
@@ -35,7 +35,7 @@ impl Batch {
     ghost use Rattle.std.specs.Prelude.{◌≡◌, length};
     ghost use Rattle.vl_collect.specs.Batches.{IsBatch};
     ghost use Rattle.vl_collect.specs.Taking.{candidates};
-    ghost use Rattle.vl_layout.specs.Relocation.{if_any};
+    ghost use Rattle.vl_engine_model.specs.Relocation.{if_any};
 
     /// These records; None where there are none.
     pub fn of(records: Vec<Found>) -> Option<Self>

@@ -5,11 +5,11 @@ ghost use Rattle.vl_collect.specs.Passing.{AreLeft};
 ghost use Rattle.vl_collect.specs.Standing.{HaveOnly, IsGiven, start};
 ghost use Rattle.vl_collect.specs.declared.pass.At.{At};
 ghost use Rattle.vl_frame.specs.Runs.{HasFrame};
-ghost use Rattle.vl_layout.specs.Logs.{records};
-ghost use Rattle.vl_layout.specs.Relocation.{Candidate, Pass, next_batch};
-ghost use Rattle.vl_layout.specs.Shown.{IsThere};
-ghost use Rattle.vl_layout.specs.Shows.{AreUpTo};
-ghost use Rattle.vl_layout.specs.declared.segment.Segment.{Segment};
+ghost use Rattle.vl_engine_model.specs.Logs.{records};
+ghost use Rattle.vl_engine_model.specs.Relocation.{Candidate, Pass, next_batch};
+ghost use Rattle.vl_engine_model.specs.Shown.{IsThere};
+ghost use Rattle.vl_engine_model.specs.Shows.{AreUpTo};
+ghost use Rattle.vl_engine_model.specs.declared.segment.Segment.{Segment};
 ghost use Rattle.vl_model.specs.Winners.{Logs};
 ghost use Rattle.vl_seglog.specs.Frames.{frames_grammar, log_bytes};
 

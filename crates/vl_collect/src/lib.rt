@@ -9,7 +9,6 @@
 #![tactic(auto)]
 
 mod batch;
-mod fault;
 mod laws;
 mod pass;
 mod still;
@@ -17,7 +16,6 @@ mod taking;
 mod wins;
 
 pub use batch::{Batch, Found};
-pub use fault::PassFault;
 pub use laws::{a_pass_begins_with_all_records, batches_stand_in_their_log};
 pub use pass::Pass;
 pub use still::still_moved;

@@ -1,13 +1,11 @@
 //! A pass over the records of a sealed log, of which it finds those that win exactly from inside it.
 
 use crate::batch::{Batch, Found};
-use crate::fault::PassFault;
 use crate::taking::{records_of, take_found};
 use std::alloc::Global;
-use vl_disk::{HeldFile, Reader};
+use vl_disk::{HeldFile, ReadFault, Reader};
 use vl_merge::Sources;
 use vl_seglog::SealedLog;
-use vl_table::TableFault;
 
 /// In bytes: where the first frame of a log stands.
 const FIRST_FRAME: u64 = vl_seglog::LOG_HEADER_BYTES as u64;
@@ -41,12 +39,12 @@ impl<V, H> Pass<V, H> {
     }
 }
 
-impl<V: Sources<Fault = TableFault>, H: HeldFile> Pass<V, H> {
+impl<V: Sources<Fault = ReadFault>, H: HeldFile> Pass<V, H> {
     ghost use Rattle.std.specs.Prelude.{◌≡◌, [], IfErr, IfOk, OnErr, OnOk};
     ghost use Rattle.vl_collect.specs.Batches.{IsBatch};
     ghost use Rattle.vl_collect.specs.Faults.{FailsPassing, MayWhere, NoneRose, counted};
     ghost use Rattle.vl_collect.specs.Passing.{Begins, EndsAlike, Gives, IsPass, TornBehind, Walks};
-    ghost use Rattle.vl_layout.specs.Relocation as layout;
+    ghost use Rattle.vl_engine_model.specs.Relocation as layout;
 
     /// A pass over this log that has given nothing yet, with the sources by which it is told what wins.
     pub fn new(base: V, log: SealedLog<H>) -> Self
@@ -73,7 +71,7 @@ impl<V: Sources<Fault = TableFault>, H: HeldFile> Pass<V, H> {
         alloc: Global,
         files: &mut R,
         looks: &mut V::Reader,
-    ) -> Result<Option<Batch>, PassFault>
+    ) -> Result<Option<Batch>, ReadFault>
         ensures gives { (p : layout.Pass) → V.fits self.old.base looks.old → IsPass H.bytes V.has self.old p
             → IfOk result (Gives H.bytes V.has self.new p) }
         ensures kept { self.new ≡ record self.old { at = self.new.at } }
@@ -102,7 +100,7 @@ impl<V: Sources<Fault = TableFault>, H: HeldFile> Pass<V, H> {
         files: &mut R,
         looks: &mut V::Reader,
         batch: &mut Vec<Found>,
-    ) -> Result<At, PassFault>
+    ) -> Result<At, ReadFault>
         ensures walks { (p : layout.Pass) → V.fits self.now.base looks.old → IsPass H.bytes V.has self.now p
             → IfOk result (Walks H.bytes self.now.log p batch.old.items batch.new.items) }
         ensures batch { batch.old.items ≡ [] → OnOk result (IsBatch batch.new.items) }

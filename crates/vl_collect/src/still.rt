@@ -4,30 +4,29 @@ ghost use Rattle.std.specs.Prelude.{◌≡◌, ◌↔◌, ◌++◌, ◌∷◌, [
 ghost use Rattle.vl_collect.specs.Batches.{MayBeMoved};
 ghost use Rattle.vl_collect.specs.Faults.{FailsLooking, IsTheirs, MayWhere};
 ghost use Rattle.vl_collect.specs.Passing.{HasEntries};
-ghost use Rattle.vl_layout.specs.Relocation.{is_moved, moved_of};
+ghost use Rattle.vl_engine_model.specs.Relocation.{is_moved, moved_of};
 ghost use Rattle.vl_collect.specs.Taking.{candidate_of};
 ghost use Rattle.vl_model.specs.declared.entry.Entry.{Entry};
 ghost use Rattle.vl_seglog.specs.Moves.{IsElsewhere};
 
 use crate::batch::{Batch, Found};
-use crate::fault::PassFault;
 use crate::wins::wins_exactly;
 use std::alloc::{AllocError, Global};
+use vl_disk::ReadFault;
 use vl_merge::Sources;
 use vl_model::Moved;
-use vl_table::TableFault;
 
 /// The records of a batch, found in a segment, that still win exactly from inside it, and are of a version of at most `last`.
 /// Each costs a look-up, and a comparison with each of those before it: sources that have their entries move no two of one
 /// key and version.
-pub fn still_moved<V: Sources<Fault = TableFault>>(
+pub fn still_moved<V: Sources<Fault = ReadFault>>(
     alloc: Global,
     sources: &V,
     looks: &mut V::Reader,
     segment: u32,
     last: u64,
     batch: &Batch,
-) -> Result<Vec<Moved>, PassFault>
+) -> Result<Vec<Moved>, ReadFault>
     ensures moved { (entries : List Entry) → V.fits sources.now looks.old → HasEntries V.has sources.now entries
         → IfOk result (λ moved. moved.items ≡ moved_of entries segment last batch.now) }
     // Whatever is told, these are the batch's, and may stand in one frame of a log.
@@ -48,13 +47,13 @@ pub fn still_moved<V: Sources<Fault = TableFault>>(
 }
 
 // Whether a record is moved.
-fn is_moved<V: Sources<Fault = TableFault>>(
+fn is_moved<V: Sources<Fault = ReadFault>>(
     sources: &V,
     looks: &mut V::Reader,
     segment: u32,
     last: u64,
     found: &Found,
-) -> Result<bool, PassFault>
+) -> Result<bool, ReadFault>
     ensures moved { (entries : List Entry) → V.fits sources.now looks.old → HasEntries V.has sources.now entries
         → IfOk result (λ moved. moved ≡ is_moved entries segment last (candidate_of found.now)) }
     ensures fits { V.fits sources.now looks.old → V.fits sources.now looks.new }

@@ -5,19 +5,18 @@ ghost use Rattle.vl_collect.specs.Batches.{IsLawful, IsOf, MayMove, Rise, found_
 ghost use Rattle.vl_collect.specs.Faults.{FailsLooking, MayWhere};
 ghost use Rattle.vl_collect.specs.Passing.{HasEntries};
 ghost use Rattle.vl_collect.specs.Taking.{Passes, candidate_of, candidates, one_of, record_of, records_as};
-ghost use Rattle.vl_layout.specs.Relocation.{found_in, has_room, value_lengths};
+ghost use Rattle.vl_engine_model.specs.Relocation.{found_in, has_room, value_lengths};
 ghost use Rattle.vl_model.specs.Keys.{value_length};
 ghost use Rattle.vl_model.specs.declared.entry.Entry.{Entry};
 ghost use Rattle.vl_seglog.specs.Placed.{records_of};
 
 use crate::batch::Found;
-use crate::fault::PassFault;
 use crate::wins::wins_exactly;
 use std::alloc::AllocError;
+use vl_disk::ReadFault;
 use vl_merge::Sources;
 use vl_model::{Change, MAX_BATCH_BYTES, MAX_BATCH_RECORDS, Moved, Value};
 use vl_seglog::{ReadRecord, Said};
-use vl_table::TableFault;
 
 /// The records of a frame, in their order.
 pub fn records_of(said: &Said) -> &[ReadRecord]
@@ -31,14 +30,14 @@ pub fn records_of(said: &Said) -> &[ReadRecord]
 
 /// Takes those of these records into a batch that win exactly from inside a segment, but for the first so many, which aren't
 /// looked at. It ends before the first for which the batch has no room, and gives how many are passed then.
-pub fn take_found<V: Sources<Fault = TableFault>>(
+pub fn take_found<V: Sources<Fault = ReadFault>>(
     base: &V,
     looks: &mut V::Reader,
     segment: u32,
     records: &[ReadRecord],
     done: usize,
     batch: &mut Vec<Found>,
-) -> Result<usize, PassFault>
+) -> Result<usize, ReadFault>
     ensures passes { (entries : List Entry) → V.fits base.now looks.old → HasEntries V.has base.now entries
         → IfOk result (λ now. Passes entries segment (candidates batch.old.items) (records_as (drop done records.now))
         (candidates batch.new.items) (records_as (drop now records.now))) }
@@ -66,12 +65,12 @@ pub fn take_found<V: Sources<Fault = TableFault>>(
 }
 
 // The record as one that is to be moved, where it wins exactly from inside the segment.
-fn found_in<V: Sources<Fault = TableFault>>(
+fn found_in<V: Sources<Fault = ReadFault>>(
     base: &V,
     looks: &mut V::Reader,
     segment: u32,
     read: &ReadRecord,
-) -> Result<Option<Found>, PassFault>
+) -> Result<Option<Found>, ReadFault>
     ensures found { (entries : List Entry) → V.fits base.now looks.old → HasEntries V.has base.now entries
         → IfOk result (λ found. one_of found ≡ found_in entries segment (record_of read.now)) }
     ensures is { IfOk result (λ found. IfSome found (IsOf read.now)) }

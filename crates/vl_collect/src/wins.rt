@@ -6,20 +6,19 @@ ghost use Rattle.vl_collect.specs.Passing.{HasEntries};
 ghost use Rattle.vl_model.specs.Winners.{is_far_to, leads_to, wins_exactly};
 ghost use Rattle.vl_model.specs.declared.entry.Entry.{Entry};
 
-use crate::fault::PassFault;
+use vl_disk::ReadFault;
 use vl_merge::Sources;
 use vl_model::Body;
-use vl_table::TableFault;
 
 /// Whether a record wins exactly from inside a segment: the first source that has its key and version points to its place.
-pub fn wins_exactly<V: Sources<Fault = TableFault>>(
+pub fn wins_exactly<V: Sources<Fault = ReadFault>>(
     sources: &V,
     looks: &mut V::Reader,
     segment: u32,
     key: &[u8],
     version: u64,
     place: u64,
-) -> Result<bool, PassFault>
+) -> Result<bool, ReadFault>
     ensures wins { (entries : List Entry) → V.fits sources.now looks.old → HasEntries V.has sources.now entries
         → IfOk result (λ wins. wins ≡ wins_exactly entries segment key.now version place) }
     ensures fits { V.fits sources.now looks.old → V.fits sources.now looks.new }

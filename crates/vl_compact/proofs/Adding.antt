@@ -9,7 +9,7 @@ use Rattle.std.specs.Ordering.{eq_by_cmp, is_eq, is_gt, is_lt, nat_cmp, ordering
 use Rattle.std.specs.Prelude.{nat_le}
 use Rattle.std.specs.declared.cmp.Ordering.{Ordering}
 use Rattle.std.specs.declared.cmp.Ordering.TheVariants.{Less, Equal, Greater}
-use Rattle.vl_block.specs.Cutting.{last_key}
+use Rattle.vl_model.specs.Cutting.{last_key}
 use Rattle.vl_compact.specs.Filling.{Adds, Fills, IsWhole, IsWrittenTo, named_up_to}
 use Rattle.vl_compact.specs.Keeps.{GivesNext, Stage, place_in, stage}
 use Rattle.vl_compact.specs.Keys.{all_named, named_of, up_to}
@@ -21,15 +21,15 @@ use Rattle.vl_compact.specs.declared.files.Lent.{Lent}
 use Rattle.vl_compact.specs.declared.filling.Filled.{Filled}
 use Rattle.vl_compact.specs.declared.last.Last.{Last}
 use Rattle.vl_disk.specs.declared.writer.Writer.{Ghosts}
-use Rattle.vl_layout.specs.Tables.{full_table_bytes}
-use Rattle.vl_layout.specs.declared.job.Job.{Job}
-use Rattle.vl_merge.specs.Merging.{IsAlong, IsFirst}
+use Rattle.vl_engine_model.specs.Tables.{full_table_bytes}
+use Rattle.vl_engine_model.specs.declared.job.Job.{Job}
+use Rattle.vl_model.specs.Merging.{IsAlong, IsFirst}
 use Rattle.vl_model.specs.Conflicts.{Named}
 use Rattle.vl_model.specs.Entries.{entry_cmp}
 use Rattle.vl_model.specs.Keys.{key_cmp}
 use Rattle.vl_model.specs.declared.entry.Entry.{Entry}
 use Rattle.vl_model.specs.declared.way.Way.TheVariants.{Up}
-use Rattle.vl_table_writer.specs.declared.writer.TableWriter.{TableWriter}
+use Rattle.vl_table.specs.declared.writer.table_writer.TableWriter.{TableWriter}
 
 -- ---- behind a key
 

@@ -8,9 +8,9 @@ use Rattle.std.proofs.Common.{◌≡◌, ℕ, ◌<◌, ◌≤◌, arith, List, [
 use Rattle.std.proofs.lemmas.List.Elements.{filter-append}
 use Rattle.std.proofs.lemmas.Bool.Decides.{nat_tests}
 use Rattle.vl_compact.specs.Laid.{AreBoth}
-use Rattle.vl_layout.specs.Levels.{due_inputs, greater_key, with_next, lesser_key, meets, one_or_none, least_table}
-use Rattle.vl_layout.specs.Levels.{lesser_table, range_of, widened, Range}
-use Rattle.vl_layout.specs.declared.table.Table.{Table}
+use Rattle.vl_engine_model.specs.Levels.{due_inputs, greater_key, with_next, lesser_key, meets, one_or_none, least_table}
+use Rattle.vl_engine_model.specs.Levels.{lesser_table, range_of, widened, Range}
+use Rattle.vl_engine_model.specs.declared.table.Table.{Table}
 
 pub least_next : (t : Table) (here rest : List Table) → here ≡ t ∷ rest → least_table here ≡ lesser_table t (least_table rest)
 least_next t here rest is = ap least_table is

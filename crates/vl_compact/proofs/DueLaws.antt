@@ -5,8 +5,8 @@ use Rattle.std.proofs.Common.{◌≡◌, ℕ, ◌+◌, ◌-◌, ◌<◌, ◌≤�
 use Rattle.std.proofs.lemmas.Bool.Decides.{nat_tests}
 use Rattle.std.proofs.lemmas.List.Sums.{sum_by-cons}
 use Rattle.vl_compact.proofs.Zips.{zip_length}
-use Rattle.vl_layout.specs.Levels.{due_from, due_tables, is_due, level_bytes}
-use Rattle.vl_layout.specs.declared.table.Table.{Table}
+use Rattle.vl_engine_model.specs.Levels.{due_from, due_tables, is_due, level_bytes}
+use Rattle.vl_engine_model.specs.declared.table.Table.{Table}
 
 abbrev pub bytes_of : List Table → ℕ
 bytes_of ts = sum_by (λ (t : Table). t.length) ts

@@ -10,14 +10,14 @@ use Rattle.vl_disk.specs.Faults.{Rose}
 use Rattle.vl_disk.specs.declared.name.Name.TheVariants.{Table as table_name}
 use Rattle.vl_disk.specs.declared.writer.Writer.{Ghosts}
 use Rattle.vl_model.specs.Cursors.{IsCounted}
-use Rattle.vl_table.specs.declared.fault.TableFault.{TableFault}
-use Rattle.vl_table.specs.declared.fault.TableFault.TheVariants.{Disk}
+use Rattle.vl_disk.specs.declared.read_fault.ReadFault.{ReadFault}
+use Rattle.vl_disk.specs.declared.read_fault.ReadFault.TheVariants.{Disk}
 
 -- so of reading: what there may be later there may be where what held at first still holds
-module _ {R L : Type 0} (sources : L → ℕ) (files : R → ℕ) (of_sources of_files : TableFault → Bool) (old mid new : JobReader R L)
+module _ {R L : Type 0} (sources : L → ℕ) (files : R → ℕ) (of_sources of_files : ReadFault → Bool) (old mid new : JobReader R L)
     (steady : NoneRose (counts sources files old mid)) where
-  pub reads_later : (fits fits' : Type 0) (may may_files may_files' : TableFault → Type 0) → (fits → fits')
-      → ((fault : TableFault) → may_files' fault → may_files fault) → (fault : TableFault)
+  pub reads_later : (fits fits' : Type 0) (may may_files may_files' : ReadFault → Type 0) → (fits → fits')
+      → ((fault : ReadFault) → may_files' fault → may_files fault) → (fault : ReadFault)
       → FailsReading of_sources (MayWhere fits' may) of_files may_files' (counts sources files mid new) fault
       → FailsReading of_sources (MayWhere fits may) of_files may_files (counts sources files old new) fault
   reads_later fits fits' may may_files may_files' holds keeps fault (inl memory) = inl record {
@@ -38,8 +38,8 @@ module _ {R L : Type 0} (sources : L → ℕ) (files : R → ℕ) (of_sources of
   -- and of writing a file, to which the steps before handed out something
   module _ {W : Type 0} (writer : Ghosts W) where
     pub fills_later : {g : _} (lent between then : Lent W g) → between.number ≡ lent.number → IsSteady writer lent between
-        → (fits fits' : Type 0) (may may_files may_files' : TableFault → Type 0) → (fits → fits')
-        → ((fault : TableFault) → may_files' fault → may_files fault) → (fault : TableFault)
+        → (fits fits' : Type 0) (may may_files may_files' : ReadFault → Type 0) → (fits → fits')
+        → ((fault : ReadFault) → may_files' fault → may_files fault) → (fault : ReadFault)
         → FailsFilling writer (FailsReading of_sources (MayWhere fits' may) of_files may_files') (counts sources files mid new)
         between then fault
         → FailsFilling writer (FailsReading of_sources (MayWhere fits may) of_files may_files) (counts sources files old new)

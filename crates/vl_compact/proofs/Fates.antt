@@ -6,11 +6,11 @@ use Rattle.vl_compact.specs.Keeps.{AreRulesOf, fate_by, fate_of}
 use Rattle.vl_compact.specs.Walking.{is_hidden, is_old, is_spent}
 use Rattle.vl_compact.specs.declared.rules.Rules.{Rules}
 use Rattle.vl_compact.specs.declared.rules.Fate.TheVariants.{Kept, Dropped, Needless}
-use Rattle.vl_layout.specs.Merging.{if_so, is_below, is_needless, outside_of}
-use Rattle.vl_layout.specs.declared.job.Job.{Job}
+use Rattle.vl_engine_model.specs.Merging.{if_so, is_below, is_needless, outside_of}
+use Rattle.vl_engine_model.specs.declared.job.Job.{Job}
 use Rattle.vl_merge.specs.Marked.{Marked, unless_marked}
 use Rattle.vl_merge.specs.Marked as marked
-use Rattle.vl_merge.specs.Merging.{has_older}
+use Rattle.vl_model.specs.Merging.{has_older}
 use Rattle.vl_model.specs.Entries.{is_gone}
 use Rattle.vl_model.specs.declared.entry.Entry.{Entry}
 

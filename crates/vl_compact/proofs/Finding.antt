@@ -4,8 +4,8 @@ use Rattle.std.specs.List.{AllZip}
 use Rattle.std.specs.Option.{option_map}
 use Rattle.std.proofs.Common.{◌≡◌, ℕ, zero, suc, ◌+◌, ◌≤◌, List, [], ◌∷◌, ◌++◌, length, refl, ap, sym, ◌∙◌, arith}
 use Rattle.vl_compact.specs.Places.{ends_before, found_at, index_of, input_from, place_before, put_at}
-use Rattle.vl_layout.specs.Levels.{is_among, without}
-use Rattle.vl_layout.specs.declared.table.Table.{Table}
+use Rattle.vl_engine_model.specs.Levels.{is_among, without}
+use Rattle.vl_engine_model.specs.declared.table.Table.{Table}
 
 -- ---- before a key
 

@@ -4,8 +4,8 @@ use Rattle.std.specs.Prelude.{max}
 use Rattle.vl_compact.specs.Keys.{all_named}
 use Rattle.vl_compact.specs.Racing.{greatest}
 use Rattle.vl_compact.specs.laws.WalkLaws.{gone-in_order}
-use Rattle.vl_layout.specs.Merging.{gone_after, needless}
-use Rattle.vl_layout.specs.declared.job.Job.{Job}
+use Rattle.vl_engine_model.specs.Merging.{gone_after, needless}
+use Rattle.vl_engine_model.specs.declared.job.Job.{Job}
 use Rattle.vl_model.specs.Entries.{in_order}
 use Rattle.vl_model.specs.declared.entry.Entry.{Entry}
 

@@ -3,8 +3,8 @@ use Rattle.std.specs.Prelude.{Bool, true, false, Option, Some, None, if◌then�
 use Rattle.std.specs.List.{AllZip, flat_map}
 use Rattle.std.proofs.Common.{◌≡◌, ℕ, List, [], ◌∷◌, ◌++◌, refl, ap, sym, subst, ◌∙◌}
 use Rattle.vl_compact.specs.Laid.{AreBoth}
-use Rattle.vl_layout.specs.Levels.{first_into, has_point}
-use Rattle.vl_layout.specs.declared.table.Table.{Table}
+use Rattle.vl_engine_model.specs.Levels.{first_into, has_point}
+use Rattle.vl_engine_model.specs.declared.table.Table.{Table}
 
 pub into_here : (segment : ℕ) (t : Table) (here rest : List Table) → here ≡ t ∷ rest → has_point segment t ≡ true
     → first_into segment here ≡ Some t

@@ -5,30 +5,30 @@ use Rattle.std.specs.Prelude.{map, if◌then◌else◌, unwrap_or}
 use Rattle.std.specs.List.{AllByRecursion, AllZip, filter, flat_map, slice_get}
 use Rattle.std.specs.Ordering.{is_gt}
 use Rattle.std.proofs.lemmas.List.Elements.{filter-append}
-use Rattle.vl_block.specs.Cutting.{joined}
+use Rattle.vl_model.specs.Cutting.{joined}
 use Rattle.vl_compact.specs.Keys.{behind}
 use Rattle.vl_compact.specs.Laid.{AreTablesOf, IsTableOf}
 use Rattle.vl_compact.specs.Lefts.{HasBehind}
 use Rattle.vl_compact.specs.Walking.{is_behind}
 use Rattle.vl_compact.specs.laws.BehindLaws.{span_behind, within-behind}
 use Rattle.vl_compact.specs.laws.Chosen.{all-filter}
-use Rattle.vl_block.specs.declared.shape.TableShape.{TableShape}
+use Rattle.vl_table.specs.declared.body.shape.TableShape.{TableShape}
 use Rattle.vl_disk.specs.declared.name.Name.{Name}
 use Rattle.vl_disk.specs.declared.name.Name.TheVariants.{Table as table_name}
-use Rattle.vl_layout.specs.Sources.{table_entries}
-use Rattle.vl_layout.specs.declared.table.Table as laid
+use Rattle.vl_engine_model.specs.Sources.{table_entries}
+use Rattle.vl_engine_model.specs.declared.table.Table as laid
 use Rattle.vl_merge.specs.MergeOf.{OneMayFail}
-use Rattle.vl_merge.specs.Merging.{IsAlong, IsFirst}
+use Rattle.vl_model.specs.Merging.{IsAlong, IsFirst}
 use Rattle.vl_model.specs.Entries.{entry_cmp}
 use Rattle.vl_model.specs.declared.entry.Entry.{Entry}
 use Rattle.vl_model.specs.declared.way.Way.TheVariants.{Up}
-use Rattle.vl_run.specs.Order.{within}
-use Rattle.vl_run.specs.laws.OrderLaws.{IsBefore, IsRising, rising}
+use Rattle.vl_model.specs.EntryOrder.{within}
+use Rattle.vl_model.specs.laws.OrderLaws.{IsBefore, IsRising, rising}
 use Rattle.vl_table.specs.CursorParts.{MayFailOn}
 use Rattle.vl_table.specs.Seeks.{IsBadBlock}
 use Rattle.vl_table.specs.Tables.{AreSame, number_of, shape_of}
-use Rattle.vl_table.specs.declared.fault.TableFault.{TableFault}
-use Rattle.vl_table.specs.declared.fault.TableFault.TheVariants.{NoMemory, Disk, Damaged}
+use Rattle.vl_disk.specs.declared.read_fault.ReadFault.{ReadFault}
+use Rattle.vl_disk.specs.declared.read_fault.ReadFault.TheVariants.{NoMemory, Disk, Damaged}
 use Rattle.vl_table.specs.declared.table.Table.{Table}
 
 -- ---- one table
@@ -76,7 +76,7 @@ module _ {H : Type 0} (bytes : H → Option (List ℕ)) where
       none (suc i) is = cc
 
   -- a fault on one of some tables is one on them
-  pub fails_there : (tables : List (Table H)) (table : Table H) (i : ℕ) → slice_get tables i ≡ Some table → (fault : TableFault)
+  pub fails_there : (tables : List (Table H)) (table : Table H) (i : ℕ) → slice_get tables i ≡ Some table → (fault : ReadFault)
       → MayFailOn bytes (table ∷ []) fault → MayFailOn bytes tables fault
   fails_there tables table i is NoMemory may = tt
   fails_there tables table i is (Disk name) may = (i, may.1, is ∙ only table may.1 may.0 may.2, may.3)
@@ -84,7 +84,7 @@ module _ {H : Type 0} (bytes : H → Option (List ℕ)) where
 
   -- a table that is shared fails as it does
   pub fails_shared : (size_of : H → ℕ) (name_of : H → Name) (table copy : Table H) → AreSame bytes size_of name_of table copy
-      → (fault : TableFault) → MayFailOn bytes (copy ∷ []) fault → MayFailOn bytes (table ∷ []) fault
+      → (fault : ReadFault) → MayFailOn bytes (copy ∷ []) fault → MayFailOn bytes (table ∷ []) fault
   fails_shared size_of name_of table copy same NoMemory may = tt
   fails_shared size_of name_of table copy same (Disk name) may =
       let is : copy ≡ may.1 = ap (λ (o : Option (Table H)). unwrap_or o copy) (only copy may.1 may.0 may.2) in (

@@ -3,8 +3,8 @@ use Rattle.std.specs.Prelude.{Bool, false, Some, None, ◌==◌, if◌then◌els
 use Rattle.std.specs.List.{AllZip, slice_get}
 use Rattle.std.proofs.Common.{◌≡◌, ℕ, zero, suc, ◌-◌, List, [], ◌∷◌, refl, ap, sym, subst, ◌∙◌, arith}
 use Rattle.std.proofs.lemmas.Bool.Decides.{nat_tests}
-use Rattle.vl_layout.specs.Levels.{level_at}
-use Rattle.vl_layout.specs.declared.table.Table.{Table}
+use Rattle.vl_engine_model.specs.Levels.{level_at}
+use Rattle.vl_engine_model.specs.declared.table.Table.{Table}
 
 not_first : (n : ℕ) → (suc n == 0) ≡ false
 not_first n = grind (arith, nat_tests)

@@ -8,11 +8,11 @@ use Rattle.std.specs.List.{AllZip, flat_map}
 use Rattle.std.specs.Option.{ForSome, IfNone, is_some}
 use Rattle.std.specs.Prelude.{map, Vec}
 use Rattle.std.specs.Global.{Global}
-use Rattle.vl_block.specs.Bytes.{table_bytes}
-use Rattle.vl_block.specs.Cutting.{joined}
-use Rattle.vl_block.specs.Footer.{Foot}
-use Rattle.vl_block.specs.Shapes.{IsShapeOf}
-use Rattle.vl_block.specs.declared.shape.TableShape.{TableShape}
+use Rattle.vl_table.specs.body.Bytes.{table_bytes}
+use Rattle.vl_model.specs.Cutting.{joined}
+use Rattle.vl_table.specs.body.Footer.{Foot}
+use Rattle.vl_table.specs.body.Shapes.{IsShapeOf}
+use Rattle.vl_table.specs.declared.body.shape.TableShape.{TableShape}
 use Rattle.vl_compact.proofs.Zips.{zip_length, zip_push}
 use Rattle.vl_compact.specs.Filling.{Fills, IsWhole}
 use Rattle.vl_compact.specs.Keeps.{AreRulesOf, GivesNext, place_in, stage, with_entry}
@@ -33,14 +33,14 @@ use Rattle.vl_compact.specs.declared.rules.Rules.{Rules}
 use Rattle.vl_compact.specs.Laid.{AreTablesOf}
 use Rattle.vl_disk.specs.DiskState.{File, settled}
 use Rattle.vl_disk.specs.declared.writer.Writer.{Ghosts}
-use Rattle.vl_layout.specs.Jobs.{AreOutputs}
-use Rattle.vl_layout.specs.Merging.{inputs_of, merged_entries, needless, outputs}
-use Rattle.vl_layout.specs.Sources.{numbers_of, table_entries}
-use Rattle.vl_layout.specs.Tables.{cut_into_tables}
-use Rattle.vl_layout.specs.declared.table.Table as laid
-use Rattle.vl_layout.specs.declared.job.Job as laid_job
+use Rattle.vl_engine_model.specs.Jobs.{AreOutputs}
+use Rattle.vl_engine_model.specs.Merging.{inputs_of, merged_entries, needless, outputs}
+use Rattle.vl_engine_model.specs.Sources.{numbers_of, table_entries}
+use Rattle.vl_engine_model.specs.Tables.{cut_into_tables}
+use Rattle.vl_engine_model.specs.declared.table.Table as laid
+use Rattle.vl_engine_model.specs.declared.job.Job as laid_job
 use Rattle.vl_merge.specs.Marked.{Marked}
-use Rattle.vl_merge.specs.Merging.{merged}
+use Rattle.vl_model.specs.Merging.{merged}
 use Rattle.vl_model.specs.Conflicts.{Named}
 use Rattle.vl_model.specs.Entries.{in_order}
 use Rattle.vl_model.specs.Formats.{table_format}
@@ -48,7 +48,7 @@ use Rattle.vl_model.specs.declared.entry.Entry.{Entry}
 use Rattle.vl_model.specs.declared.way.Way.TheVariants.{Up}
 use Rattle.vl_table.specs.Tables.{number_of}
 use Rattle.vl_table.specs.declared.table.Table.{Table}
-use Rattle.vl_run.specs.laws.OrderLaws.{rising-in_order}
+use Rattle.vl_model.specs.laws.OrderLaws.{rising-in_order}
 
 -- ---- lists
 

@@ -6,9 +6,9 @@ use Rattle.std.proofs.Common.{◌≡◌, ℕ, ◌+◌, List, [], ◌∷◌, subs
 use Rattle.vl_compact.specs.Laid.{AreBoth}
 use Rattle.vl_compact.specs.Merges.{AreInputsOf, drain_in, plan_in}
 use Rattle.vl_compact.specs.declared.inputs.Inputs.{Inputs}
-use Rattle.vl_layout.specs.Levels.{due_from, first_into, inputs_at}
-use Rattle.vl_layout.specs.declared.job.Target.TheVariants.{InPlace, Level}
-use Rattle.vl_layout.specs.declared.table.Table as laid
+use Rattle.vl_engine_model.specs.Levels.{due_from, first_into, inputs_at}
+use Rattle.vl_engine_model.specs.declared.job.Target.TheVariants.{InPlace, Level}
+use Rattle.vl_engine_model.specs.declared.table.Table as laid
 use Rattle.vl_table.specs.declared.table.Table.{Table}
 
 module _ {H : Type 0} (bytes : H → Option (List ℕ)) where

@@ -1,15 +1,15 @@
 -- What a table's shape and file say of the layout's table.
 use Rattle.std.specs.Prelude.{ℕ, List, Option, Some, length}
 use Rattle.std.proofs.Common.{◌≡◌, ◌∙◌, ap, sym, subst}
-use Rattle.vl_block.specs.Bytes.{table_bytes}
-use Rattle.vl_block.specs.Cutting.{table_length}
-use Rattle.vl_block.specs.Footer.{Foot}
-use Rattle.vl_block.specs.Shapes.{IsShapeOf}
-use Rattle.vl_block.specs.declared.shape.TableShape.{TableShape}
-use Rattle.vl_block.specs.laws.Lengths.{length-table_bytes}
+use Rattle.vl_table.specs.body.Bytes.{table_bytes}
+use Rattle.vl_model.specs.Cutting.{table_length}
+use Rattle.vl_table.specs.body.Footer.{Foot}
+use Rattle.vl_table.specs.body.Shapes.{IsShapeOf}
+use Rattle.vl_table.specs.declared.body.shape.TableShape.{TableShape}
+use Rattle.vl_table.specs.laws.Lengths.{length-table_bytes}
 use Rattle.vl_compact.specs.Laid.{IsTableOf}
 use Rattle.vl_disk.specs.declared.name.Name.{Name}
-use Rattle.vl_layout.specs.declared.table.Table as laid
+use Rattle.vl_engine_model.specs.declared.table.Table as laid
 use Rattle.vl_table.specs.Tables.{AreSame, number_of, shape_of}
 use Rattle.vl_table.specs.declared.table.Table.{Table}
 

@@ -3,23 +3,23 @@ use Rattle.std.proofs.Common.{◌≡◌, ℕ, Bool, false, not, ◌&&◌, List, 
 use Rattle.std.specs.Option.{ForSome}
 use Rattle.std.specs.Ordering.{eq_by_cmp}
 use Rattle.std.specs.Prelude.{nat_le}
-use Rattle.vl_block.specs.Bytes.{table_bytes}
-use Rattle.vl_block.specs.Cutting.{last_key}
-use Rattle.vl_block.specs.Footer.{Foot}
-use Rattle.vl_block.specs.Shapes.{IsShapeOf}
-use Rattle.vl_block.specs.declared.shape.TableShape.{TableShape}
+use Rattle.vl_table.specs.body.Bytes.{table_bytes}
+use Rattle.vl_model.specs.Cutting.{last_key}
+use Rattle.vl_table.specs.body.Footer.{Foot}
+use Rattle.vl_table.specs.body.Shapes.{IsShapeOf}
+use Rattle.vl_table.specs.declared.body.shape.TableShape.{TableShape}
 use Rattle.vl_compact.specs.Filling.{IsWhole, IsWrittenTo}
 use Rattle.vl_compact.specs.laws.FirstTable.{closes, frames_length}
 use Rattle.vl_compact.specs.declared.files.Lent.{Lent}
 use Rattle.vl_disk.specs.declared.writer.Writer.{Ghosts}
-use Rattle.vl_layout.specs.Tables.{full_table_bytes}
+use Rattle.vl_engine_model.specs.Tables.{full_table_bytes}
 use Rattle.vl_model.specs.Formats.{table_format}
 use Rattle.vl_model.specs.Keys.{key_cmp}
 use Rattle.vl_model.specs.declared.entry.Entry.{Entry}
-use Rattle.vl_table_writer.specs.Tails.{IsTail, tail_bytes}
-use Rattle.vl_table_writer.specs.Writing.{Appended, IsWriting}
-use Rattle.vl_table_writer.specs.declared.tail.Tail.{Tail}
-use Rattle.vl_table_writer.specs.declared.writer.TableWriter.{TableWriter}
+use Rattle.vl_table.specs.writer.Tails.{IsTail, tail_bytes}
+use Rattle.vl_table.specs.writer.Writing.{Appended, IsWriting}
+use Rattle.vl_table.specs.declared.writer.tail.Tail.{Tail}
+use Rattle.vl_table.specs.declared.writer.table_writer.TableWriter.{TableWriter}
 
 -- four pieces in pairs, and a fifth, are one behind the other
 pub regroup : (given a b c d e : List ℕ) → ((given ++ (a ++ b)) ++ (c ++ d)) ++ e ≡ given ++ (a ++ (b ++ (c ++ (d ++ e))))

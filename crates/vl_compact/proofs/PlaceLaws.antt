@@ -5,10 +5,10 @@ use Rattle.std.specs.Option.{option_map}
 use Rattle.std.proofs.Common.{◌≡◌, ⊎_elim, inl, inr, ◌⊎◌, ℕ, ◌+◌, ◌-◌, ◌<◌, ◌≤◌, List, [], ◌∷◌, ◌++◌, zero, suc}
 use Rattle.std.proofs.Common.{append-nil, length, refl, ap, sym, subst, ◌∙◌, arith}
 use Rattle.std.proofs.lemmas.Bool.Decides.{nat_tests}
-use Rattle.vl_layout.specs.Levels.{at_level, in_key_order, is_among, is_before, level_at, without}
-use Rattle.vl_layout.specs.OpenJobs.{IsIdle}
-use Rattle.vl_layout.specs.declared.job.Target.TheVariants.{InPlace, Level}
-use Rattle.vl_layout.specs.declared.table.Table.{Table}
+use Rattle.vl_engine_model.specs.Levels.{at_level, in_key_order, is_among, is_before, level_at, without}
+use Rattle.vl_engine_model.specs.OpenJobs.{IsIdle}
+use Rattle.vl_engine_model.specs.declared.job.Target.TheVariants.{InPlace, Level}
+use Rattle.vl_engine_model.specs.declared.table.Table.{Table}
 use Rattle.vl_compact.specs.Places.{HasPlace, IsPlace, count_before, ends_before, first_key, found_at, index_of}
 use Rattle.vl_compact.specs.Places.{input_from, place_before, place_from, put_at, put_in}
 

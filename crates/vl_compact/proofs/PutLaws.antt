@@ -9,9 +9,9 @@ use Rattle.vl_compact.specs.Laid.{AreLevelsOf, AreTablesOf, IsTableOf}
 use Rattle.vl_compact.specs.Places.{first_key, put_at}
 use Rattle.vl_compact.specs.Replacing.{AreReady}
 use Rattle.vl_compact.specs.declared.ready.ReadyLevels.{ReadyLevels}
-use Rattle.vl_layout.specs.Levels.{at_level, level_at, replaced, without}
-use Rattle.vl_layout.specs.declared.job.Target.{Target}
-use Rattle.vl_layout.specs.declared.table.Table as laid
+use Rattle.vl_engine_model.specs.Levels.{at_level, level_at, replaced, without}
+use Rattle.vl_engine_model.specs.declared.job.Target.{Target}
+use Rattle.vl_engine_model.specs.declared.table.Table as laid
 use Rattle.vl_table.specs.declared.table.Table.{Table}
 use Rattle.vl_version.specs.declared.levels.Levels.{Levels}
 

@@ -3,10 +3,10 @@ use Rattle.std.specs.Prelude.{◌≡◌, ◌⊎◌, ℕ, true, List, [], ◌∷�
 use Rattle.std.specs.Arc.{arc_value}
 use Rattle.std.specs.List.{AllByRecursion, filter}
 use Rattle.std.specs.Option.{ForSome}
-use Rattle.vl_block.specs.Bytes.{table_bytes}
-use Rattle.vl_block.specs.Cutting.{last_key}
-use Rattle.vl_block.specs.Shapes.{IsShapeOf}
-use Rattle.vl_block.specs.declared.shape.TableShape.{TableShape}
+use Rattle.vl_table.specs.body.Bytes.{table_bytes}
+use Rattle.vl_model.specs.Cutting.{last_key}
+use Rattle.vl_table.specs.body.Shapes.{IsShapeOf}
+use Rattle.vl_table.specs.declared.body.shape.TableShape.{TableShape}
 use Rattle.vl_compact.specs.Keeps.{Stage}
 use Rattle.vl_compact.specs.Keys.{all_named, up_to}
 use Rattle.vl_compact.specs.Lending.{FailsWriting, IsSteady}
@@ -17,15 +17,15 @@ use Rattle.vl_compact.specs.laws.ProgressLaws.{is_past}
 use Rattle.vl_compact.specs.declared.files.Lent.{Lent}
 use Rattle.vl_compact.specs.declared.filling.Filled.{Filled}
 use Rattle.vl_disk.specs.declared.writer.Writer.{Ghosts}
-use Rattle.vl_layout.specs.declared.job.Job.{Job}
-use Rattle.vl_merge.specs.Merging.{IsAlong}
+use Rattle.vl_engine_model.specs.declared.job.Job.{Job}
+use Rattle.vl_model.specs.Merging.{IsAlong}
 use Rattle.vl_model.specs.Conflicts.{Named}
 use Rattle.vl_model.specs.Formats.{table_format}
 use Rattle.vl_model.specs.declared.entry.Entry.{Entry}
 use Rattle.vl_model.specs.declared.way.Way.TheVariants.{Up}
-use Rattle.vl_table.specs.declared.fault.TableFault.{TableFault}
-use Rattle.vl_table_writer.specs.Writing.{IsWriting}
-use Rattle.vl_table_writer.specs.declared.writer.TableWriter.{TableWriter}
+use Rattle.vl_disk.specs.declared.read_fault.ReadFault.{ReadFault}
+use Rattle.vl_table.specs.writer.Writing.{IsWriting}
+use Rattle.vl_table.specs.declared.writer.table_writer.TableWriter.{TableWriter}
 
 module _ {W : Type 0} (writer : Ghosts W) where
   -- a table is being written to the file: it has these entries, and the file has what was given out of it
@@ -62,7 +62,7 @@ module _ {W : Type 0} (writer : Ghosts W) where
     pub found_are : filled.found.items ≡ all_named (up_to (Some filled.last) (spent j None left))
 
   -- A call that reads and writes failed: reading did, by what a fault of that is, or writing.
-  abbrev pub FailsFilling : {g : _} → (Counts → TableFault → Type 0) → Counts → (old new : Lent W g) → TableFault → Type 0
+  abbrev pub FailsFilling : {g : _} → (Counts → ReadFault → Type 0) → Counts → (old new : Lent W g) → ReadFault → Type 0
   FailsFilling reads c old new fault =
       (reads c fault × IsSteady writer old new) ⊎ (FailsWriting writer old new fault × NoneRose c)
 

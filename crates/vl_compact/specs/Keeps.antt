@@ -6,9 +6,9 @@ use Rattle.vl_compact.specs.declared.last.Last.{Last}
 use Rattle.vl_compact.specs.declared.rules.Fate.{Fate}
 use Rattle.vl_compact.specs.declared.rules.Fate.TheVariants.{Kept, Dropped, Needless}
 use Rattle.vl_compact.specs.declared.rules.Rules.{Rules}
-use Rattle.vl_layout.specs.Merging.{if_so}
-use Rattle.vl_layout.specs.declared.job.Job.{Job}
-use Rattle.vl_merge.specs.Merging.{IsAlong, IsFirst}
+use Rattle.vl_engine_model.specs.Merging.{if_so}
+use Rattle.vl_engine_model.specs.declared.job.Job.{Job}
+use Rattle.vl_model.specs.Merging.{IsAlong, IsFirst}
 use Rattle.vl_model.specs.Conflicts.{Named}
 use Rattle.vl_model.specs.declared.entry.Entry.{Entry}
 use Rattle.vl_model.specs.declared.way.Way.TheVariants.{Up}

@@ -1,8 +1,8 @@
 -- Which tables of a layout are those of a store.
 use Rattle.std.specs.Prelude.{◌≡◌, ℕ, List, ◌∷◌, Option, Some, None}
 use Rattle.std.specs.List.{AllZip}
-use Rattle.vl_layout.specs.Tidy.{IsTrueTable}
-use Rattle.vl_layout.specs.declared.table.Table as laid
+use Rattle.vl_engine_model.specs.Tidy.{IsTrueTable}
+use Rattle.vl_engine_model.specs.declared.table.Table as laid
 use Rattle.vl_table.specs.Tables.{IsOf, number_of, shape_of}
 use Rattle.vl_table.specs.declared.table.Table.{Table}
 use Rattle.vl_version.specs.declared.levels.Levels.{Levels}

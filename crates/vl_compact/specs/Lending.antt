@@ -4,8 +4,8 @@ use Rattle.vl_compact.specs.declared.files.Lent.{Lent}
 use Rattle.vl_disk.specs.Faults.{Rose}
 use Rattle.vl_disk.specs.declared.name.Name.TheVariants.{Table as table_name}
 use Rattle.vl_disk.specs.declared.writer.Writer.{Ghosts}
-use Rattle.vl_table.specs.declared.fault.TableFault.{TableFault}
-use Rattle.vl_table.specs.declared.fault.TableFault.TheVariants.{NoMemory, Disk}
+use Rattle.vl_disk.specs.declared.read_fault.ReadFault.{ReadFault}
+use Rattle.vl_disk.specs.declared.read_fault.ReadFault.TheVariants.{NoMemory, Disk}
 
 module _ {W : Type 0} (writer : Ghosts W) where
   -- the writer counted no fault
@@ -13,14 +13,14 @@ module _ {W : Type 0} (writer : Ghosts W) where
   IsSteady old new = writer.faults new.writer ≡ writer.faults old.writer
 
   -- memory was wanting
-  pub record Wanted {g : _} (old new : Lent W g) (fault : TableFault) : Type 0 where
+  pub record Wanted {g : _} (old new : Lent W g) (fault : ReadFault) : Type 0 where
     pub is : fault ≡ NoMemory
     pub steady : IsSteady old new
 
   -- writing failed, and the writer has counted it
-  pub record HasFailed {g : _} (old new : Lent W g) (fault : TableFault) : Type 0 where
+  pub record HasFailed {g : _} (old new : Lent W g) (fault : ReadFault) : Type 0 where
     pub named : fault ≡ Disk (table_name old.number)
     pub rose : Rose (writer.faults old.writer) (writer.faults new.writer)
 
-  abbrev pub FailsWriting : {g : _} → (old new : Lent W g) → TableFault → Type 0
+  abbrev pub FailsWriting : {g : _} → (old new : Lent W g) → ReadFault → Type 0
   FailsWriting old new fault = Wanted old new fault ⊎ HasFailed old new fault

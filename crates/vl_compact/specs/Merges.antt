@@ -4,10 +4,10 @@ use Rattle.std.specs.List.{flat_map}
 use Rattle.std.specs.Option.{option_map}
 use Rattle.vl_compact.specs.Laid.{AreBoth, AreTablesOf}
 use Rattle.vl_compact.specs.declared.inputs.Inputs.{Inputs}
-use Rattle.vl_layout.specs.Levels.{due_from, first_into, inputs_at}
-use Rattle.vl_layout.specs.declared.job.Target.{Target}
-use Rattle.vl_layout.specs.declared.job.Target.TheVariants.{InPlace, Level}
-use Rattle.vl_layout.specs.declared.table.Table.{Table}
+use Rattle.vl_engine_model.specs.Levels.{due_from, first_into, inputs_at}
+use Rattle.vl_engine_model.specs.declared.job.Target.{Target}
+use Rattle.vl_engine_model.specs.declared.job.Target.TheVariants.{InPlace, Level}
+use Rattle.vl_engine_model.specs.declared.table.Table.{Table}
 
 -- the tables that are merged, in the order of the sources, and where its outputs are put
 pub record Merge : Type 0 where

@@ -5,11 +5,11 @@ use Rattle.std.specs.List.{flat_map}
 use Rattle.std.specs.Option.{option_map}
 use Rattle.std.specs.Ordering.{is_lt}
 use Rattle.vl_model.specs.Keys.{key_cmp}
-use Rattle.vl_layout.specs.Levels.{at_level, is_among, is_before, level_at, replaced, without}
-use Rattle.vl_layout.specs.OpenJobs.{IsIdle}
-use Rattle.vl_layout.specs.declared.job.Target.{Target}
-use Rattle.vl_layout.specs.declared.job.Target.TheVariants.{InPlace, Level}
-use Rattle.vl_layout.specs.declared.table.Table.{Table}
+use Rattle.vl_engine_model.specs.Levels.{at_level, is_among, is_before, level_at, replaced, without}
+use Rattle.vl_engine_model.specs.OpenJobs.{IsIdle}
+use Rattle.vl_engine_model.specs.declared.job.Target.{Target}
+use Rattle.vl_engine_model.specs.declared.job.Target.TheVariants.{InPlace, Level}
+use Rattle.vl_engine_model.specs.declared.table.Table.{Table}
 
 -- ---- the place
 

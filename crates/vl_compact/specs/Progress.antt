@@ -4,8 +4,8 @@ use Rattle.std.specs.Prelude.{Option, None, vec_capacity, vec_len, IsSome}
 use Rattle.std.specs.Arc.{arc_value}
 use Rattle.std.specs.List.{AllZip, flat_map}
 use Rattle.std.specs.Option.{ForSome}
-use Rattle.vl_block.specs.Bytes.{table_bytes}
-use Rattle.vl_block.specs.Shapes.{IsShapeOf}
+use Rattle.vl_table.specs.body.Bytes.{table_bytes}
+use Rattle.vl_table.specs.body.Shapes.{IsShapeOf}
 use Rattle.vl_compact.specs.Filling.{FailsFilling}
 use Rattle.vl_compact.specs.Keys.{all_named, behind, up_to}
 use Rattle.vl_compact.specs.Laid.{AreTablesOf}
@@ -16,17 +16,17 @@ use Rattle.vl_compact.specs.declared.files.Synced.{Synced}
 use Rattle.vl_compact.specs.declared.job.Job.{Job}
 use Rattle.vl_disk.specs.DiskState.{new_file, settled}
 use Rattle.vl_disk.specs.declared.writer.Writer.{Ghosts}
-use Rattle.vl_layout.specs.Jobs.{Made, tables_made}
-use Rattle.vl_layout.specs.Merging.{inputs_of, merged_entries, needless, outputs}
-use Rattle.vl_layout.specs.Sources.{numbers_of, table_entries}
-use Rattle.vl_layout.specs.Tables.{cut_into_tables}
-use Rattle.vl_layout.specs.declared.job.Job as laid_job
-use Rattle.vl_layout.specs.declared.table.Table as laid
+use Rattle.vl_engine_model.specs.Jobs.{Made, tables_made}
+use Rattle.vl_engine_model.specs.Merging.{inputs_of, merged_entries, needless, outputs}
+use Rattle.vl_engine_model.specs.Sources.{numbers_of, table_entries}
+use Rattle.vl_engine_model.specs.Tables.{cut_into_tables}
+use Rattle.vl_engine_model.specs.declared.job.Job as laid_job
+use Rattle.vl_engine_model.specs.declared.table.Table as laid
 use Rattle.vl_merge.specs.Marked.{Marked}
 use Rattle.vl_model.specs.Entries.{in_order}
 use Rattle.vl_model.specs.Formats.{table_format}
 use Rattle.vl_model.specs.declared.entry.Entry.{Entry}
-use Rattle.vl_table.specs.declared.fault.TableFault.{TableFault}
+use Rattle.vl_disk.specs.declared.read_fault.ReadFault.{ReadFault}
 
 -- which of some entries are done: those up to a key, or all at the end
 abbrev pub done_by : Bool → Option (List ℕ) → List Entry → List Entry
@@ -142,7 +142,7 @@ module _ {V H W : Type 0} (writer : Ghosts W) where
     pub durable : ForSome (writer.file table.writer) (λ f. f ≡ settled f.bytes)
 
   -- A call that reads and writes failed: reading did, by what a fault of that is, or writing the file, which is a leaving.
-  abbrev pub FailsWith : {g : _} → (Counts → TableFault → Type 0) → Counts → Lent W g → (old new : Job V H W g) → TableFault → Type 0
+  abbrev pub FailsWith : {g : _} → (Counts → ReadFault → Type 0) → Counts → Lent W g → (old new : Job V H W g) → ReadFault → Type 0
   FailsWith {g} reads c fresh old new fault = (leaving : Lent W g) × (new.leavings.items ≡ old.leavings.items ++ leaving ∷ [])
       × FailsFilling writer reads c fresh leaving fault
 

@@ -4,9 +4,9 @@ use Rattle.std.specs.List.{AllZip}
 use Rattle.vl_compact.specs.Laid.{AreTablesOf}
 use Rattle.vl_compact.specs.Places.{IsPlace, put_at}
 use Rattle.vl_compact.specs.declared.ready.ReadyLevels.{ReadyLevels}
-use Rattle.vl_layout.specs.Levels.{level_at, without}
-use Rattle.vl_layout.specs.declared.job.Target.{Target}
-use Rattle.vl_layout.specs.declared.table.Table.{Table}
+use Rattle.vl_engine_model.specs.Levels.{level_at, without}
+use Rattle.vl_engine_model.specs.declared.job.Target.{Target}
+use Rattle.vl_engine_model.specs.declared.table.Table.{Table}
 
 module _ {H : Type 0} where
   -- so many tables more may be put without memory

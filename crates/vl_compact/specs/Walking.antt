@@ -2,8 +2,8 @@
 -- version the newest source's comes first.
 use Rattle.std.specs.Prelude.{ℕ, ◌+◌, Bool, true, false, ◌&&◌, ◌||◌, not, nat_le, if◌then◌else◌, List, [], ◌∷◌, Option, Some, None}
 use Rattle.std.specs.Ordering.{eq_by_cmp, is_lt}
-use Rattle.vl_layout.specs.Merging.{if_so, is_needless, outside_of}
-use Rattle.vl_layout.specs.declared.job.Job.{Job}
+use Rattle.vl_engine_model.specs.Merging.{if_so, is_needless, outside_of}
+use Rattle.vl_engine_model.specs.declared.job.Job.{Job}
 use Rattle.vl_merge.specs.Marked.{is_first_outside}
 use Rattle.vl_model.specs.Entries.{is_at}
 use Rattle.vl_model.specs.Keys.{key_cmp}

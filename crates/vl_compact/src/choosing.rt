@@ -3,13 +3,13 @@
 ghost use Rattle.std.specs.Prelude.{◌≡◌, ◌==◌, List, Option, Some};
 ghost use Rattle.std.specs.List.{AllZip, flat_map, list_any};
 ghost use Rattle.std.specs.Option.{option_copied};
-ghost use Rattle.vl_block.specs.declared.points.Point as of_footer;
+ghost use Rattle.vl_model.specs.declared.point.Point as of_footer;
 ghost use Rattle.vl_compact.specs.Laid.{AreBoth, AreLevelsOf, AreTablesOf, IsTableOf};
-ghost use Rattle.vl_layout.specs.Levels as layout;
-ghost use Rattle.vl_layout.specs.declared.table.Table as laid;
+ghost use Rattle.vl_engine_model.specs.Levels as layout;
+ghost use Rattle.vl_engine_model.specs.declared.table.Table as laid;
 
-use vl_block::Point;
 use vl_disk::HeldFile;
+use vl_model::Point;
 use vl_table::Table;
 use vl_version::{Level, Levels};
 

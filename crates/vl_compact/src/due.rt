@@ -3,8 +3,8 @@
 ghost use Rattle.std.specs.Prelude.{◌≡◌, ◌≤◌, true, List, None, Some, nat_le, nat_lt, if◌then◌else◌, IfSome};
 ghost use Rattle.std.specs.List.{AllZip, sum_by};
 ghost use Rattle.vl_compact.specs.Laid.{AreLevelsOf, AreTablesOf};
-ghost use Rattle.vl_layout.specs.Levels as layout;
-ghost use Rattle.vl_layout.specs.declared.table.Table as laid;
+ghost use Rattle.vl_engine_model.specs.Levels as layout;
+ghost use Rattle.vl_engine_model.specs.declared.table.Table as laid;
 
 use vl_disk::HeldFile;
 use vl_table::Table;

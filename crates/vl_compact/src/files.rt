@@ -5,9 +5,8 @@ ghost use Rattle.vl_disk.specs.declared.name.Name.TheVariants.{Table as table_na
 
 use std::alloc::Global;
 use std::sync::Arc;
-use vl_block::TableShape;
-use vl_disk::{DiskFail, Name, Writer};
-use vl_table::TableFault;
+use vl_disk::{DiskFail, Name, ReadFault, Writer};
+use vl_table::TableShape;
 
 /// A file that a disk has lent for the table with this number.
 #[derive(Drop)]
@@ -31,11 +30,11 @@ impl<W: Writer> Lent<W> {
     ghost use Rattle.std.specs.Option.{ForSome};
     ghost use Rattle.vl_compact.specs.Lending.{FailsWriting, IsSteady};
     ghost use Rattle.vl_disk.specs.DiskState.{settled};
-    ghost use Rattle.vl_table.specs.declared.fault.TableFault.TheVariants.{Disk};
+    ghost use Rattle.vl_disk.specs.declared.read_fault.ReadFault.TheVariants.{Disk};
 
     // Puts a piece behind the end of the file.
     #[tactic(auto, using(crate::proofs::Telling::tells_all, crate::proofs::Telling::tells_part))]
-    pub fn append(&mut self, piece: &[u8]) -> Result<(), TableFault>
+    pub fn append(&mut self, piece: &[u8]) -> Result<(), ReadFault>
         ensures number { self.new.number ≡ self.old.number }
         ensures bytes { (given : List ℕ) → ForSome (W.file self.old.writer) (λ f. f.bytes ≡ given)
             → OnOk result (ForSome (W.file self.new.writer) (λ f. f.bytes ≡ given ++ piece.now)) }
@@ -45,14 +44,14 @@ impl<W: Writer> Lent<W> {
     {
         match self.writer.append(piece) {
             Ok(()) => Ok(()),
-            Err(DiskFail::NoMemory) => Err(TableFault::NoMemory),
+            Err(DiskFail::NoMemory) => Err(ReadFault::NoMemory),
             Err(DiskFail::Failed) => Err(self.failed()),
         }
     }
 
     // Makes the file durable.
     #[tactic(auto, using(crate::proofs::Telling::tells_settled, crate::proofs::Telling::durable_settled))]
-    pub fn sync(&mut self) -> Result<(), TableFault>
+    pub fn sync(&mut self) -> Result<(), ReadFault>
         ensures number { self.new.number ≡ self.old.number }
         ensures settled { (bytes : List ℕ) → ForSome (W.file self.old.writer) (λ f. f.bytes ≡ bytes)
             → OnOk result (ForSome (W.file self.new.writer) (λ f. f ≡ settled bytes)) }
@@ -67,10 +66,10 @@ impl<W: Writer> Lent<W> {
         }
     }
 
-    fn failed(&self) -> TableFault
+    fn failed(&self) -> ReadFault
         ensures { result ≡ Disk (table_name self.now.number) }
     {
-        TableFault::Disk {
+        ReadFault::Disk {
             name: Name::Table(self.number),
         }
     }

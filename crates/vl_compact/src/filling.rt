@@ -4,34 +4,32 @@ ghost use Rattle.std.specs.Prelude.{◌≡◌, ◌++◌, ◌∷◌, [], nat_le, 
 ghost use Rattle.std.specs.Arc.{arc_value};
 ghost use Rattle.std.specs.Option.{ForSome};
 ghost use Rattle.std.specs.Ordering.{eq_by_cmp};
-ghost use Rattle.vl_block.specs.Cutting.{last_key};
+ghost use Rattle.vl_model.specs.Cutting.{last_key};
 ghost use Rattle.vl_compact.specs.Filling.{Adds, FailsFilling, Fills, IsWhole, IsWrittenTo, named_up_to};
 ghost use Rattle.vl_compact.specs.Keeps.{AreRulesOf, stage};
 ghost use Rattle.vl_compact.specs.Lending.{FailsWriting, IsSteady};
 ghost use Rattle.vl_compact.specs.Reading.{FailsReading, MayWhere, NoneRose, counts};
 ghost use Rattle.vl_compact.specs.laws.FirstTable.{closes, frames_length};
 ghost use Rattle.vl_compact.specs.laws.ProgressLaws.{is_past};
-ghost use Rattle.vl_layout.specs.declared.job.Job as laid;
-ghost use Rattle.vl_layout.specs.Tables.{full_table_bytes};
-ghost use Rattle.vl_merge.specs.Merging.{IsAlong};
+ghost use Rattle.vl_engine_model.specs.declared.job.Job as laid;
+ghost use Rattle.vl_engine_model.specs.Tables.{full_table_bytes};
+ghost use Rattle.vl_model.specs.Merging.{IsAlong};
 ghost use Rattle.vl_model.specs.Keys.{key_cmp};
 ghost use Rattle.vl_model.specs.declared.entry.Entry.{Entry};
 ghost use Rattle.vl_model.specs.declared.way.Way.TheVariants.{Up};
-ghost use Rattle.vl_table.specs.declared.fault.TableFault.TheVariants.{NoMemory};
-ghost use Rattle.vl_table_writer.specs.Tails.{tail_bytes};
-ghost use Rattle.vl_table_writer.specs.Writing.{IsWriting};
+ghost use Rattle.vl_disk.specs.declared.read_fault.ReadFault.TheVariants.{NoMemory};
+ghost use Rattle.vl_table.specs.writer.Tails.{tail_bytes};
+ghost use Rattle.vl_table.specs.writer.Writing.{IsWriting};
 
 use crate::files::Lent;
 use crate::job_reader::JobReader;
 use crate::keeping::Keeping;
 use std::alloc::Global;
 use std::sync::Arc;
-use vl_block::TableShape;
-use vl_disk::Writer;
+use vl_disk::{ReadFault, Writer};
 use vl_merge::Sources;
 use vl_model::{Cursor, Entry, Key, key_order};
-use vl_table::TableFault;
-use vl_table_writer::{AddFail, TableWriter, Tail};
+use vl_table::{AddFail, TableShape, TableWriter, Tail};
 
 // A merge closes a table whose block frames have so many bytes.
 const FULL_TABLE_BYTES: u64 = 2_097_152;
@@ -46,13 +44,13 @@ pub struct Filled {
 }
 
 /// Writes the first table of what is kept to its file. Nothing of it is durable yet.
-pub fn fill<C: Cursor<Fault = TableFault>, V: Sources<Fault = TableFault>, W: Writer>(
+pub fn fill<C: Cursor<Fault = ReadFault>, V: Sources<Fault = ReadFault>, W: Writer>(
     alloc: Global,
     base: &V,
     reader: &mut JobReader<C::Reader, V::Reader>,
     keeping: &mut Keeping<C>,
     lent: &mut Lent<W>,
-) -> Result<Filled, TableFault>
+) -> Result<Filled, ReadFault>
     ensures fills { (j : laid.Job) (left : List Entry) → AreRulesOf keeping.old.rules j → V.has base.now j.inputs j.base
         → V.fits base.now reader.old.looks → C.left keeping.old.cursor ≡ Some left → keeping.old.last ≡ None → IsAlong Up left
         → ForSome (W.file lent.old.writer) (λ f. f.bytes ≡ []) → IfOk result (Fills W.Writer j left lent.new) }
@@ -68,7 +66,7 @@ pub fn fill<C: Cursor<Fault = TableFault>, V: Sources<Fault = TableFault>, W: Wr
     let mut found = Vec::new(alloc);
     // There is one wherever the sources tell what they have.
     let Some(first) = keeping.next(base, reader, &mut found)? else {
-        return Err(TableFault::NoMemory);
+        return Err(ReadFault::NoMemory);
     };
     let mut table = begin(alloc, lent, &first)?;
     add_kept(
@@ -82,7 +80,7 @@ fn begin<W: Writer>(
     alloc: Global,
     lent: &mut Lent<W>,
     first: &Entry,
-) -> Result<TableWriter, TableFault>
+) -> Result<TableWriter, ReadFault>
     ensures begun { ForSome (W.file lent.old.writer) (λ f. f.bytes ≡ [])
         → IfOk result (λ table. IsWrittenTo W.Writer lent.new table (first.now ∷ [])) }
     ensures number { lent.new.number ≡ lent.old.number }
@@ -101,7 +99,7 @@ fn begin<W: Writer>(
 }
 
 // Adds the entries that are kept until the table is full and another key comes.
-fn add_kept<C: Cursor<Fault = TableFault>, V: Sources<Fault = TableFault>, W: Writer>(
+fn add_kept<C: Cursor<Fault = ReadFault>, V: Sources<Fault = ReadFault>, W: Writer>(
     alloc: Global,
     base: &V,
     reader: &mut JobReader<C::Reader, V::Reader>,
@@ -110,7 +108,7 @@ fn add_kept<C: Cursor<Fault = TableFault>, V: Sources<Fault = TableFault>, W: Wr
     lent: &mut Lent<W>,
     table: &mut TableWriter,
     first: Entry,
-) -> Result<(), TableFault>
+) -> Result<(), ReadFault>
     ensures adds { (j : laid.Job) (left : List Entry) → AreRulesOf keeping.old.rules j → V.has base.now j.inputs j.base
         → V.fits base.now reader.old.looks → C.left keeping.old.cursor ≡ Some left
         → IsWrittenTo W.Writer lent.old table.old (first ∷ [])
@@ -141,7 +139,7 @@ fn add<W: Writer>(
     lent: &mut Lent<W>,
     table: &mut TableWriter,
     entry: &Entry,
-) -> Result<(), TableFault>
+) -> Result<(), ReadFault>
     ensures added { (es : List Entry) → IsWrittenTo W.Writer lent.old table.old es
         → OnOk result (IsWrittenTo W.Writer lent.new table.new (es ++ entry.now ∷ [])) }
     ensures number { lent.new.number ≡ lent.old.number }
@@ -157,7 +155,7 @@ fn add<W: Writer>(
 }
 
 // Puts a piece behind the end of a file, if there is anything of it.
-fn append_some<W: Writer>(lent: &mut Lent<W>, piece: &[u8]) -> Result<(), TableFault>
+fn append_some<W: Writer>(lent: &mut Lent<W>, piece: &[u8]) -> Result<(), ReadFault>
     ensures number { lent.new.number ≡ lent.old.number }
     ensures tells { IsSome (W.file lent.old.writer) → IsSome (W.file lent.new.writer) }
     ensures bytes { (given : List ℕ) → ForSome (W.file lent.old.writer) (λ f. f.bytes ≡ given)
@@ -200,7 +198,7 @@ fn finish<W: Writer>(
     lent: &mut Lent<W>,
     table: TableWriter,
     found: Vec<(Key, u64)>,
-) -> Result<Filled, TableFault>
+) -> Result<Filled, ReadFault>
     ensures whole { (es : List Entry) → IsWrittenTo W.Writer lent.old table es
         → IfOk result (λ filled. IsWhole W.Writer lent.new es (arc_value filled.shape)) }
     ensures last { (es : List Entry) → IsWrittenTo W.Writer lent.old table es → IfOk result (λ filled. filled.last ≡ last_key es) }
@@ -217,12 +215,12 @@ fn finish<W: Writer>(
     let found = up_to(found, &last);
     match Arc::new(alloc, shape) {
         Ok(shape) => Ok(Filled { shape, last, found }),
-        Err(_) => Err(TableFault::NoMemory),
+        Err(_) => Err(ReadFault::NoMemory),
     }
 }
 
 // Puts the rest of a table behind the end of its file.
-fn append_tail<W: Writer>(lent: &mut Lent<W>, tail: &Tail) -> Result<(), TableFault>
+fn append_tail<W: Writer>(lent: &mut Lent<W>, tail: &Tail) -> Result<(), ReadFault>
     ensures number { lent.new.number ≡ lent.old.number }
     ensures tells { IsSome (W.file lent.old.writer) → IsSome (W.file lent.new.writer) }
     ensures bytes { (given : List ℕ) → ForSome (W.file lent.old.writer) (λ f. f.bytes ≡ given)
@@ -236,7 +234,7 @@ fn append_tail<W: Writer>(lent: &mut Lent<W>, tail: &Tail) -> Result<(), TableFa
 }
 
 // Puts two pieces behind the end of a file.
-fn append_behind<W: Writer>(lent: &mut Lent<W>, one: &[u8], two: &[u8]) -> Result<(), TableFault>
+fn append_behind<W: Writer>(lent: &mut Lent<W>, one: &[u8], two: &[u8]) -> Result<(), ReadFault>
     ensures number { lent.new.number ≡ lent.old.number }
     ensures tells { IsSome (W.file lent.old.writer) → IsSome (W.file lent.new.writer) }
     ensures bytes { (given : List ℕ) → ForSome (W.file lent.old.writer) (λ f. f.bytes ≡ given)
@@ -264,10 +262,10 @@ fn is_up_to(last: &Key, deletion: &(Key, u64)) -> bool
 }
 
 // What refuses an entry is want of memory: the entries of true tables may all stand in one, in their order.
-fn refused(fail: AddFail) -> TableFault
+fn refused(fail: AddFail) -> ReadFault
     ensures { result ≡ NoMemory }
 {
     match fail {
-        AddFail::NoMemory | AddFail::NotLawful => TableFault::NoMemory,
+        AddFail::NoMemory | AddFail::NotLawful => ReadFault::NoMemory,
     }
 }

@@ -5,13 +5,13 @@ ghost use Rattle.std.specs.List.{filter};
 ghost use Rattle.std.specs.Option.{option_map};
 ghost use Rattle.vl_compact.specs.Laid.{AreTablesOf, IsTableOf};
 ghost use Rattle.vl_compact.specs.Ranges.{range_in};
-ghost use Rattle.vl_layout.specs.Levels.{meets};
-ghost use Rattle.vl_layout.specs.declared.table.Table as laid;
+ghost use Rattle.vl_engine_model.specs.Levels.{meets};
+ghost use Rattle.vl_engine_model.specs.declared.table.Table as laid;
 
 use crate::range::{self, KeyRange};
 use std::alloc::AllocError;
 use vl_disk::HeldFile;
-use vl_layout::Target;
+use vl_engine_model::Target;
 use vl_table::Table;
 
 /// The tables that a merge takes, in the order of the sources, and where its outputs are put.

@@ -14,10 +14,10 @@ use crate::parts::Parts;
 use crate::racing::{greatest, least_moved, numbers_of, total};
 use crate::rules::Rules;
 use std::alloc::{AllocError, Global};
-use vl_disk::{HeldFile, Reader, Writer};
+use vl_disk::{HeldFile, ReadFault, Reader, Writer};
 use vl_merge::{Merge, Sources};
 use vl_model::{Cursor, Key};
-use vl_table::{TableCursor, TableFault};
+use vl_table::TableCursor;
 
 /// A merge of tables that is under way.
 #[derive(Drop)]
@@ -110,10 +110,10 @@ impl<V: Sources, H: HeldFile, W: Writer> Job<V, H, W> {
     ghost use Rattle.std.specs.Option.{option_map};
     ghost use Rattle.vl_compact.specs.Progress.{Has, HasAll, IsJobOf, IsNew, made_of};
     ghost use Rattle.vl_compact.specs.Racing.{IsMoved, IsUnmoved};
-    ghost use Rattle.vl_layout.specs.Jobs.{AreOutputs};
-    ghost use Rattle.vl_layout.specs.Merging.{gone_after, merged_entries, needless};
-    ghost use Rattle.vl_layout.specs.Rulings.Install.{race};
-    ghost use Rattle.vl_layout.specs.declared.job.Job as laid;
+    ghost use Rattle.vl_engine_model.specs.Jobs.{AreOutputs};
+    ghost use Rattle.vl_engine_model.specs.Merging.{gone_after, merged_entries, needless};
+    ghost use Rattle.vl_engine_model.specs.Rulings.Install.{race};
+    ghost use Rattle.vl_engine_model.specs.declared.job.Job as laid;
 
     /// A merge of these inputs that has made nothing yet: the sources as the plan found them, the floor at the plan, and how
     /// many of the newest versions of a key are kept.
@@ -173,7 +173,7 @@ impl<V: Sources, H: HeldFile, W: Writer> Job<V, H, W> {
     }
 }
 
-impl<V: Sources<Fault = TableFault>, H: HeldFile, W: Writer> Job<V, H, W> {
+impl<V: Sources<Fault = ReadFault>, H: HeldFile, W: Writer> Job<V, H, W> {
     ghost use Rattle.std.specs.Prelude.{◌≡◌, ◌<◌, ◌≤◌, ◌+◌, ◌++◌, List, None, Some, map, true, false, vec_capacity};
     ghost use Rattle.std.specs.Prelude.{vec_len, IfErr, IfOk, IsSome, OnErr, OnOk};
     ghost use Rattle.std.specs.List.{flat_map};
@@ -182,15 +182,15 @@ impl<V: Sources<Fault = TableFault>, H: HeldFile, W: Writer> Job<V, H, W> {
     ghost use Rattle.vl_compact.specs.Laid.{AreTablesOf};
     ghost use Rattle.vl_compact.specs.Progress.{Answers, FailsWith, Has, HasRoom, IsFresh, IsSettled, KeepsAll, Leaves, Takes, HasTaken};
     ghost use Rattle.vl_compact.specs.Reading.{FailsReading, MayWhere, NoneRose, counts};
-    ghost use Rattle.vl_layout.specs.Merging.{inputs_of};
-    ghost use Rattle.vl_layout.specs.Sources.{table_entries};
-    ghost use Rattle.vl_layout.specs.declared.job.Job as laid;
-    ghost use Rattle.vl_layout.specs.declared.table.Table as laid_table;
-    ghost use Rattle.vl_merge.specs.Merging.{merged};
+    ghost use Rattle.vl_engine_model.specs.Merging.{inputs_of};
+    ghost use Rattle.vl_engine_model.specs.Sources.{table_entries};
+    ghost use Rattle.vl_engine_model.specs.declared.job.Job as laid;
+    ghost use Rattle.vl_engine_model.specs.declared.table.Table as laid_table;
+    ghost use Rattle.vl_model.specs.Merging.{merged};
     ghost use Rattle.vl_model.specs.declared.way.Way.TheVariants.{Up};
     ghost use Rattle.vl_table.specs.CursorParts.{MayFailOn, is_disk_fault};
     ghost use Rattle.vl_table.specs.Tables.{number_of};
-    ghost use Rattle.vl_table.specs.declared.fault.TableFault.{TableFault};
+    ghost use Rattle.vl_disk.specs.declared.read_fault.ReadFault.{ReadFault};
 
     /// Whether it keeps an entry that isn't in one of its tables. It reads on behind the last one until it meets such an
     /// entry; where none is left, it has all of its merge. After a fault it is as before.
@@ -198,7 +198,7 @@ impl<V: Sources<Fault = TableFault>, H: HeldFile, W: Writer> Job<V, H, W> {
         &mut self,
         alloc: Global,
         reader: &mut JobReader<R, V::Reader>,
-    ) -> Result<bool, TableFault>
+    ) -> Result<bool, ReadFault>
         ensures answers { (j : laid.Job) → V.fits self.old.base reader.old.looks → Has W.Writer H.bytes V.has self.old j
             → IfOk result (Answers W.Writer H.bytes V.has self.new j) }
         // Whatever is told: where more is kept it waits for a file, and where nothing is it has ended, and waits for none.
@@ -239,7 +239,7 @@ impl<V: Sources<Fault = TableFault>, H: HeldFile, W: Writer> Job<V, H, W> {
         alloc: Global,
         reader: &mut JobReader<R, V::Reader>,
         fresh: Lent<W>,
-    ) -> Result<(), TableFault>
+    ) -> Result<(), ReadFault>
         requires waits { self.old.waits ≡ true }
         requires room { HasRoom self.old }
         ensures next { (j : laid.Job) → V.fits self.old.base reader.old.looks → IsFresh W.Writer fresh
@@ -273,7 +273,7 @@ impl<V: Sources<Fault = TableFault>, H: HeldFile, W: Writer> Job<V, H, W> {
         alloc: Global,
         reader: &mut JobReader<R, V::Reader>,
         lent: &mut Lent<W>,
-    ) -> Result<Filled, TableFault>
+    ) -> Result<Filled, ReadFault>
         ensures fills { (j : laid.Job) → V.fits self.old.base reader.old.looks → IsFresh W.Writer lent.old
             → Has W.Writer H.bytes V.has self.old j
             → IfOk result (Fills W.Writer j (merged Up (behind self.old.after (inputs_of j.base))) lent.new) }
@@ -330,7 +330,7 @@ impl<V: Sources<Fault = TableFault>, H: HeldFile, W: Writer> Job<V, H, W> {
         ensures left { (ts : List laid_table.Table) → AreTablesOf H.bytes self.now.inputs.tables.items ts
             → IfOk result (λ k. ⟦<Merge<TableCursor<H, R>> as Cursor>⟧.left k.cursor
             ≡ Some (merged Up (behind self.now.after (flat_map table_entries ts)))) }
-        ensures may_fail { IfOk result (λ k. (fault : TableFault)
+        ensures may_fail { IfOk result (λ k. (fault : ReadFault)
             → ⟦<Merge<TableCursor<H, R>> as Cursor>⟧.may_fail k.cursor fault → MayFailOn H.bytes self.now.inputs.tables.items fault) }
     {
         let rules = Rules {

@@ -5,18 +5,18 @@ ghost use Rattle.std.specs.Ordering.{eq_by_cmp};
 ghost use Rattle.vl_compact.specs.Keeps.{AreRulesOf, GivesNext, Passes, is_kept, noted, place_in, stage};
 ghost use Rattle.vl_compact.specs.Reading.{FailsLooking, FailsReading, MayWhere, NoneRose, counts};
 ghost use Rattle.vl_compact.specs.Walking.{comes_again, seen_before};
-ghost use Rattle.vl_layout.specs.declared.job.Job as laid;
+ghost use Rattle.vl_engine_model.specs.declared.job.Job as laid;
 ghost use Rattle.vl_model.specs.Keys.{key_cmp};
 ghost use Rattle.vl_model.specs.declared.entry.Entry.{Entry};
-ghost use Rattle.vl_table.specs.declared.fault.TableFault.{TableFault};
+ghost use Rattle.vl_disk.specs.declared.read_fault.ReadFault.{ReadFault};
 
 use crate::job_reader::JobReader;
 use crate::last::Last;
 use crate::rules::{Fate, Rules};
 use std::alloc::AllocError;
+use vl_disk::ReadFault;
 use vl_merge::Sources;
 use vl_model::{Cursor, Entry, Key, key_order};
-use vl_table::TableFault;
 
 /// Entries of a merge's inputs, merged, and where it is among them. After a fault it is to be given up.
 #[derive(Drop)]
@@ -26,14 +26,14 @@ pub struct Keeping<C> {
     pub last: Option<Last>,
 }
 
-impl<C: Cursor<Fault = TableFault>> Keeping<C> {
+impl<C: Cursor<Fault = ReadFault>> Keeping<C> {
     /// The next entry that it keeps. The needless deletions that it passes are put behind the others, by key and version.
-    pub fn next<V: Sources<Fault = TableFault>>(
+    pub fn next<V: Sources<Fault = ReadFault>>(
         &mut self,
         base: &V,
         reader: &mut JobReader<C::Reader, V::Reader>,
         found: &mut Vec<(Key, u64)>,
-    ) -> Result<Option<Entry>, TableFault>
+    ) -> Result<Option<Entry>, ReadFault>
         ensures next { (j : laid.Job) (left : List Entry) → AreRulesOf self.old.rules j → V.has base.now j.inputs j.base
             → V.fits base.now reader.old.looks → C.left self.old.cursor ≡ Some left
             → IfOk result (GivesNext j (stage self.old.last left found.old.items) self.new.last (C.left self.new.cursor) found.new.items) }
@@ -43,7 +43,7 @@ impl<C: Cursor<Fault = TableFault>> Keeping<C> {
         ensures cause { IfErr result (FailsReading (λ f. V.is_read_fault f)
             (MayWhere (V.fits base.now reader.old.looks) (V.may_fail base.now)) (λ f. C.is_read_fault f) (C.may_fail self.old.cursor)
             (counts (λ l. V.faults l) (λ r. C.faults r) reader.old reader.new)) }
-        ensures keeps { (fault : TableFault) → C.may_fail self.new.cursor fault → C.may_fail self.old.cursor fault }
+        ensures keeps { (fault : ReadFault) → C.may_fail self.new.cursor fault → C.may_fail self.old.cursor fault }
         ensures spends { C.budget self.new.cursor ≤ C.budget self.old.cursor }
         ensures fewer { IfOk result (λ next. IsSome next → C.budget self.new.cursor < C.budget self.old.cursor) }
     {
@@ -64,14 +64,14 @@ impl<C: Cursor<Fault = TableFault>> Keeping<C> {
 }
 
 // Whether the entry that comes now is kept. If it is a needless deletion, its key and version are put behind the others.
-fn pass<V: Sources<Fault = TableFault>>(
+fn pass<V: Sources<Fault = ReadFault>>(
     rules: &Rules,
     last: &mut Option<Last>,
     base: &V,
     looks: &mut V::Reader,
     entry: &Entry,
     found: &mut Vec<(Key, u64)>,
-) -> Result<bool, TableFault>
+) -> Result<bool, ReadFault>
     ensures passes { (j : laid.Job) → AreRulesOf rules.now j → V.has base.now j.inputs j.base → V.fits base.now looks.old
         → IfOk result (Passes j (place_in last.old) (place_in last.new) entry.now found.old.items found.new.items) }
     ensures fits { V.fits base.now looks.old → V.fits base.now looks.new }

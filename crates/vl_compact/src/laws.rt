@@ -2,9 +2,9 @@
 ghost use Rattle.std.specs.Prelude.{◌≡◌, ℕ, None};
 ghost use Rattle.vl_compact.specs.Merges.{drain_in, plan_in};
 ghost use Rattle.vl_compact.specs.Ruled.{merge_ruling};
-ghost use Rattle.vl_layout.specs.Rulings.Drain.{drain_ruling};
-ghost use Rattle.vl_layout.specs.Rulings.Plan.{plan_ruling};
-ghost use Rattle.vl_layout.specs.declared.layout.Layout.{Layout};
+ghost use Rattle.vl_engine_model.specs.Rulings.Drain.{drain_ruling};
+ghost use Rattle.vl_engine_model.specs.Rulings.Plan.{plan_ruling};
+ghost use Rattle.vl_engine_model.specs.declared.layout.Layout.{Layout};
 ghost use Rattle.vl_model.specs.History.{History};
 
 /// Where no job is open, the merges that are planned of a layout's levels are those that it rules.

@@ -6,21 +6,21 @@ ghost use Rattle.vl_compact.specs.Keys.{behind};
 ghost use Rattle.vl_compact.specs.Laid.{AreTablesOf, IsTableOf};
 ghost use Rattle.vl_compact.specs.Lefts.{HasBehind};
 ghost use Rattle.vl_compact.specs.laws.BehindLaws.{span_behind};
-ghost use Rattle.vl_layout.specs.Sources.{table_entries};
-ghost use Rattle.vl_layout.specs.declared.table.Table as laid;
+ghost use Rattle.vl_engine_model.specs.Sources.{table_entries};
+ghost use Rattle.vl_engine_model.specs.declared.table.Table as laid;
 ghost use Rattle.vl_merge.specs.MergeOf.{OneMayFail};
-ghost use Rattle.vl_merge.specs.Merging.{merged};
+ghost use Rattle.vl_model.specs.Merging.{merged};
 ghost use Rattle.vl_model.specs.declared.entry.Entry.{Entry};
 ghost use Rattle.vl_model.specs.declared.way.Way.TheVariants.{Up};
 ghost use Rattle.vl_table.specs.CursorParts.{MayFailOn};
 ghost use Rattle.vl_table.specs.Tables.{IsOf};
-ghost use Rattle.vl_table.specs.declared.fault.TableFault.{TableFault};
+ghost use Rattle.vl_disk.specs.declared.read_fault.ReadFault.{ReadFault};
 
 use std::alloc::{AllocError, Global};
-use vl_disk::{HeldFile, Reader};
+use vl_disk::{HeldFile, ReadFault, Reader};
 use vl_merge::{Merge, merge_of_told_sources};
 use vl_model::{Bytes, Cursor, Key, Span, Way};
-use vl_table::{Table, TableCursor, TableFault};
+use vl_table::{Table, TableCursor};
 
 /// The entries of these tables that are behind a key, or all of them, merged.
 pub fn merged<H: HeldFile, R: Reader<Held = H> + Drop>(
@@ -31,7 +31,7 @@ pub fn merged<H: HeldFile, R: Reader<Held = H> + Drop>(
     ensures left { (ts : List laid.Table) → AreTablesOf H.bytes tables.now ts
         → IfOk result (λ m. ⟦<Merge<TableCursor<H, R>> as Cursor>⟧.left m
         ≡ Some (merged Up (behind after.now (flat_map table_entries ts)))) }
-    ensures may_fail { IfOk result (λ m. (fault : TableFault)
+    ensures may_fail { IfOk result (λ m. (fault : ReadFault)
         → ⟦<Merge<TableCursor<H, R>> as Cursor>⟧.may_fail m fault → MayFailOn H.bytes tables.now fault) }
 {
     merge_of_told_sources();
@@ -46,7 +46,7 @@ fn cursors<H: HeldFile, R: Reader<Held = H> + Drop>(
 ) -> Result<Vec<TableCursor<H, R>>, AllocError>
     ensures left { (ts : List laid.Table) → AreTablesOf H.bytes tables.now ts → IfOk result (λ cs.
         AllZip (HasBehind (λ c. ⟦<TableCursor<H, R> as Cursor>⟧.left c) after.now) cs.items ts) }
-    ensures may_fail { IfOk result (λ cs. (fault : TableFault)
+    ensures may_fail { IfOk result (λ cs. (fault : ReadFault)
         → OneMayFail (λ c f. ⟦<TableCursor<H, R> as Cursor>⟧.may_fail c f) cs.items fault → MayFailOn H.bytes tables.now fault) }
 {
     let mut cursors = Vec::new(alloc);
@@ -64,7 +64,7 @@ fn cursor<H: HeldFile, R: Reader<Held = H> + Drop>(
 ) -> Result<TableCursor<H, R>, AllocError>
     ensures left { (t : laid.Table) → IsTableOf H.bytes table.now t
         → IfOk result (λ c. HasBehind (λ c. ⟦<TableCursor<H, R> as Cursor>⟧.left c) after.now c t) }
-    ensures may_fail { IfOk result (λ c. (fault : TableFault)
+    ensures may_fail { IfOk result (λ c. (fault : ReadFault)
         → ⟦<TableCursor<H, R> as Cursor>⟧.may_fail c fault → MayFailOn H.bytes (table.now ∷ []) fault) }
 {
     let mut one = Vec::new(alloc);

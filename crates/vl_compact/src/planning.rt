@@ -3,8 +3,8 @@
 ghost use Rattle.std.specs.Prelude.{◌≤◌, ◌∷◌, [], IfOk, List};
 ghost use Rattle.vl_compact.specs.Laid.{AreLevelsOf, AreTablesOf, IsTableOf};
 ghost use Rattle.vl_compact.specs.Merges.{IsMerge, drain_in, plan_in};
-ghost use Rattle.vl_layout.specs.Levels as layout;
-ghost use Rattle.vl_layout.specs.declared.table.Table as laid;
+ghost use Rattle.vl_engine_model.specs.Levels as layout;
+ghost use Rattle.vl_engine_model.specs.declared.table.Table as laid;
 
 use crate::choosing::{first_into, least, level_at};
 use crate::due::least_due;
@@ -12,7 +12,7 @@ use crate::inputs::{Inputs, add, add_all, add_meeting};
 use crate::range::{range_of, widened};
 use std::alloc::{AllocError, Global};
 use vl_disk::HeldFile;
-use vl_layout::Target;
+use vl_engine_model::Target;
 use vl_table::Table;
 use vl_version::Levels;
 

@@ -5,8 +5,8 @@ ghost use Rattle.std.specs.Option.{option_map};
 ghost use Rattle.std.specs.Ordering.{is_lt};
 ghost use Rattle.vl_compact.specs.Laid.{AreTablesOf, IsTableOf};
 ghost use Rattle.vl_compact.specs.Ranges.{range_in};
-ghost use Rattle.vl_layout.specs.Levels as layout;
-ghost use Rattle.vl_layout.specs.declared.table.Table as laid;
+ghost use Rattle.vl_engine_model.specs.Levels as layout;
+ghost use Rattle.vl_engine_model.specs.declared.table.Table as laid;
 ghost use Rattle.vl_model.specs.Keys.{key_cmp};
 
 use vl_disk::HeldFile;

@@ -26,9 +26,9 @@ impl<H: HeldFile> ReadyLevels<H> {
     ghost use Rattle.vl_compact.specs.Laid.{AreLevelsOf, IsTableOf};
     ghost use Rattle.vl_compact.specs.Places.{first_key};
     ghost use Rattle.vl_compact.specs.Replacing.{AreReady, HasRoom};
-    ghost use Rattle.vl_layout.specs.Levels.{replaced};
-    ghost use Rattle.vl_layout.specs.declared.job.Target.{Target};
-    ghost use Rattle.vl_layout.specs.declared.table.Table as laid;
+    ghost use Rattle.vl_engine_model.specs.Levels.{replaced};
+    ghost use Rattle.vl_engine_model.specs.declared.job.Target.{Target};
+    ghost use Rattle.vl_engine_model.specs.declared.table.Table as laid;
 
     /// Puts the next output, for which there is room. It wants no memory.
     pub fn put(&mut self, table: Table<H>)

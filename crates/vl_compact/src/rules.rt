@@ -3,15 +3,15 @@
 ghost use Rattle.std.specs.Prelude.{◌≡◌, ◌+◌, ◌&&◌, ◌==◌, nat_le, if◌then◌else◌, IfErr, IfOk, MatchResult, OnOk};
 ghost use Rattle.vl_compact.specs.Keeps.{AreRulesOf, fate_of};
 ghost use Rattle.vl_compact.specs.Walking.{is_old, is_spent};
-ghost use Rattle.vl_layout.specs.declared.job.Job as laid;
+ghost use Rattle.vl_engine_model.specs.declared.job.Job as laid;
 ghost use Rattle.vl_model.specs.Cursors.{IsCounted};
 ghost use Rattle.vl_model.specs.Entries.{is_gone};
 
 use crate::last::Last;
 use std::alloc::AllocError;
+use vl_disk::ReadFault;
 use vl_merge::Sources;
 use vl_model::{Body, Entry};
-use vl_table::TableFault;
 
 /// What becomes of an entry.
 #[derive(Clone, Copy)]
@@ -32,13 +32,13 @@ pub struct Rules {
 
 impl Rules {
     /// What becomes of an entry of whose key so many versions up to the floor came before.
-    pub fn fate<V: Sources<Fault = TableFault>>(
+    pub fn fate<V: Sources<Fault = ReadFault>>(
         &self,
         base: &V,
         looks: &mut V::Reader,
         seen: u64,
         entry: &Entry,
-    ) -> Result<Fate, TableFault>
+    ) -> Result<Fate, ReadFault>
         ensures fate { (j : laid.Job) → AreRulesOf self.now j → V.has base.now j.inputs j.base → V.fits base.now looks.old
             → IfOk result (λ fate. fate ≡ fate_of j seen entry.now) }
         ensures fits { V.fits base.now looks.old → V.fits base.now looks.new }
@@ -60,12 +60,12 @@ impl Rules {
 
     // Whether it is a deletion that nothing outside the inputs needs.
     #[tactic(auto, using(crate::proofs::Fates::not_spent, crate::proofs::Fates::spent_by))]
-    fn is_spent<V: Sources<Fault = TableFault>>(
+    fn is_spent<V: Sources<Fault = ReadFault>>(
         &self,
         base: &V,
         looks: &mut V::Reader,
         entry: &Entry,
-    ) -> Result<bool, TableFault>
+    ) -> Result<bool, ReadFault>
         ensures spent { (j : laid.Job) → AreRulesOf self.now j → V.has base.now j.inputs j.base → V.fits base.now looks.old
             → IfOk result (λ spent. spent ≡ is_spent j entry.now) }
         ensures fits { V.fits base.now looks.old → V.fits base.now looks.new }

@@ -17,11 +17,11 @@ use Rattle.vl_drive.specs.declared.transfer.Transfer.{Transfer}
 use Rattle.vl_drive.specs.laws.SinceLaws.{newer-assoc, newer-none}
 use Rattle.vl_drive.specs.laws.TurnLaws.{balance_read}
 use Rattle.vl_drive.proofs.Sums.{sum-moved, sum-reaches, sum-same, with_at}
-use Rattle.vl_layout.specs.LockHistory.{commits_of, put_after}
-use Rattle.vl_layout.specs.declared.lock_history.LockEntry.{LockEntry}
-use Rattle.vl_layout.specs.declared.lock_history.LockStep.{LockStep}
-use Rattle.vl_layout.specs.declared.lock_history.LockStep.TheVariants.{Begun, Changed, Ended, JobEnded, PassEnded}
-use Rattle.vl_layout.specs.declared.lock_history.LockStep.TheVariants.{Picked, Planned, Put}
+use Rattle.vl_engine_model.specs.LockHistory.{commits_of, put_after}
+use Rattle.vl_engine_model.specs.declared.lock_history.LockEntry.{LockEntry}
+use Rattle.vl_engine_model.specs.declared.lock_history.LockStep.{LockStep}
+use Rattle.vl_engine_model.specs.declared.lock_history.LockStep.TheVariants.{Begun, Changed, Ended, JobEnded, PassEnded}
+use Rattle.vl_engine_model.specs.declared.lock_history.LockStep.TheVariants.{Picked, Planned, Put}
 use Rattle.vl_model.specs.History.{History, last_change, last_number, newer, past_value, value_at, value_left, with_commit}
 use Rattle.vl_model.specs.Keys.{Stored, Writes, key_cmp, untagged}
 use Rattle.vl_model.specs.declared.change.Change.{Change}

@@ -5,11 +5,11 @@ use Rattle.std.proofs.lemmas.Bool.Decides.{nat_tests}
 use Rattle.std.specs.List.{AllByRecursion}
 use Rattle.vl_drive.specs.Accounts.{sum_of}
 use Rattle.vl_drive.specs.Steps.{count_by, is_end, is_ended, is_put}
-use Rattle.vl_layout.specs.LockHistory.{commits_of, put_after}
-use Rattle.vl_layout.specs.declared.lock_history.LockEntry.{LockEntry}
-use Rattle.vl_layout.specs.declared.lock_history.LockStep.{LockStep}
-use Rattle.vl_layout.specs.declared.lock_history.LockStep.TheVariants.{Begun, Changed, Ended, JobEnded, PassEnded}
-use Rattle.vl_layout.specs.declared.lock_history.LockStep.TheVariants.{Picked, Planned, Put}
+use Rattle.vl_engine_model.specs.LockHistory.{commits_of, put_after}
+use Rattle.vl_engine_model.specs.declared.lock_history.LockEntry.{LockEntry}
+use Rattle.vl_engine_model.specs.declared.lock_history.LockStep.{LockStep}
+use Rattle.vl_engine_model.specs.declared.lock_history.LockStep.TheVariants.{Begun, Changed, Ended, JobEnded, PassEnded}
+use Rattle.vl_engine_model.specs.declared.lock_history.LockStep.TheVariants.{Picked, Planned, Put}
 use Rattle.vl_model.specs.Keys.{Writes}
 
 abbrev one_if : Bool → ℕ

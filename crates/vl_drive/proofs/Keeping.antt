@@ -11,8 +11,8 @@ use Rattle.vl_drive.specs.Knowing.{GoesAside, GoesOn, Knows, Looks}
 use Rattle.vl_drive.specs.Playing.{HasBegun, HasEnded}
 use Rattle.vl_drive.specs.Steps.{count_by, history_by, is_aside, is_put}
 use Rattle.vl_drive.specs.laws.StepLaws.{aside_is_no_put, counted_parts, counted_none, counted_own}
-use Rattle.vl_layout.specs.declared.lock_history.LockEntry.{LockEntry}
-use Rattle.vl_layout.specs.laws.LockHistoryLaws.{none≢some}
+use Rattle.vl_engine_model.specs.declared.lock_history.LockEntry.{LockEntry}
+use Rattle.vl_engine_model.specs.laws.LockHistoryLaws.{none≢some}
 use Rattle.vl_drive.proofs.Scoring.{one_counted}
 use Rattle.vl_model.specs.Conflicts.{Named, first_conflict, first_of, is_overwritten, last_named}
 use Rattle.vl_model.specs.History.{History, last_number}

@@ -11,21 +11,21 @@ use Rattle.vl_drive.specs.Knowing.{Knows}
 use Rattle.vl_drive.specs.Modest.{IsModest}
 use Rattle.vl_drive.specs.Steps.{Origin, count_by, history_by, is_put, layout_by}
 use Rattle.vl_drive.specs.laws.StepLaws.{counted_own, counted_parts}
-use Rattle.vl_layout.specs.LockHistory.{HasOpen, IsLegal, OpenTicket, entries_by, is_of, nothing_open, open_things, open_tickets}
-use Rattle.vl_layout.specs.LockHistory.{tickets_after, tickets_by}
-use Rattle.vl_layout.specs.Rising.{put_by}
-use Rattle.vl_layout.specs.Ruling.{leaving}
-use Rattle.vl_layout.specs.Rulings.Begin.{Begun as BegunAt, TooMany, begin_ruling, begun}
-use Rattle.vl_layout.specs.Rulings.Commit.{Exhausted, Full, Nothing, Transaction, commit_checked, commit_ended, commit_frame}
-use Rattle.vl_layout.specs.Rulings.Commit.{commit_ruling, commit_unless, committed}
-use Rattle.vl_layout.specs.Tickets.{free_ticket, tickets_of}
-use Rattle.vl_layout.specs.declared.file_name.FileName.{FileName}
-use Rattle.vl_layout.specs.declared.layout.Layout.{Layout}
-use Rattle.vl_layout.specs.declared.lock_history.LockEntry.{LockEntry}
-use Rattle.vl_layout.specs.declared.lock_history.LockStep.{LockStep}
-use Rattle.vl_layout.specs.declared.lock_history.LockStep.TheVariants.{Begun, Changed, Ended, JobEnded, PassEnded}
-use Rattle.vl_layout.specs.declared.lock_history.LockStep.TheVariants.{Picked, Planned, Put}
-use Rattle.vl_layout.specs.laws.LockHistoryLaws.{as_many_live, last_open, legal-first, open_tickets-is, own_tickets}
+use Rattle.vl_engine_model.specs.LockHistory.{HasOpen, IsLegal, OpenTicket, entries_by, is_of, nothing_open, open_things, open_tickets}
+use Rattle.vl_engine_model.specs.LockHistory.{tickets_after, tickets_by}
+use Rattle.vl_engine_model.specs.Rising.{put_by}
+use Rattle.vl_engine_model.specs.Ruling.{leaving}
+use Rattle.vl_engine_model.specs.Rulings.Begin.{Begun as BegunAt, TooMany, begin_ruling, begun}
+use Rattle.vl_engine_model.specs.Rulings.Commit.{Exhausted, Full, Nothing, Transaction, commit_checked, commit_ended, commit_frame}
+use Rattle.vl_engine_model.specs.Rulings.Commit.{commit_ruling, commit_unless, committed}
+use Rattle.vl_engine_model.specs.Tickets.{free_ticket, tickets_of}
+use Rattle.vl_engine_model.specs.declared.file_name.FileName.{FileName}
+use Rattle.vl_engine_model.specs.declared.layout.Layout.{Layout}
+use Rattle.vl_engine_model.specs.declared.lock_history.LockEntry.{LockEntry}
+use Rattle.vl_engine_model.specs.declared.lock_history.LockStep.{LockStep}
+use Rattle.vl_engine_model.specs.declared.lock_history.LockStep.TheVariants.{Begun, Changed, Ended, JobEnded, PassEnded}
+use Rattle.vl_engine_model.specs.declared.lock_history.LockStep.TheVariants.{Picked, Planned, Put}
+use Rattle.vl_engine_model.specs.laws.LockHistoryLaws.{as_many_live, last_open, legal-first, open_tickets-is, own_tickets}
 use Rattle.vl_model.specs.Conflicts.{Named, first_conflict}
 use Rattle.vl_model.specs.Frames.{frame_length}
 use Rattle.vl_model.specs.History.{History, last_number}

@@ -13,14 +13,14 @@ use Rattle.vl_drive.specs.laws.ModestLaws.{aside_all, begun_open, ended_open, fe
 use Rattle.vl_drive.specs.laws.StepLaws.{aside_is_no_put, counted_none, counted_parts}
 use Rattle.vl_drive.specs.declared.fails.Done.{Done}
 use Rattle.vl_drive.specs.declared.fails.Done.TheVariants as done
-use Rattle.vl_layout.specs.Decides.{Answered, Damaged, Failed, NoMemory, Outcome}
-use Rattle.vl_layout.specs.LockHistory.{OpenTicket, open_tickets}
-use Rattle.vl_layout.specs.Ruling.{ended, halted_at, logged}
-use Rattle.vl_layout.specs.Rulings.Begin as begin
-use Rattle.vl_layout.specs.Rulings.Begin.{BeginAnswer, begin_ruling, begun}
-use Rattle.vl_layout.specs.Rulings.Commit.{At, CommitAnswer, Conflict, Exhausted, Full, Halted, Nothing, commit_frame, commit_ruling}
-use Rattle.vl_layout.specs.declared.lock_history.LockEntry.{LockEntry}
-use Rattle.vl_layout.specs.declared.lock_history.LockStep.TheVariants.{Begun, Ended, Put}
+use Rattle.vl_engine_model.specs.Decides.{Answered, Damaged, Failed, NoMemory, Outcome}
+use Rattle.vl_engine_model.specs.LockHistory.{OpenTicket, open_tickets}
+use Rattle.vl_engine_model.specs.Ruling.{ended, halted_at, logged}
+use Rattle.vl_engine_model.specs.Rulings.Begin as begin
+use Rattle.vl_engine_model.specs.Rulings.Begin.{BeginAnswer, begin_ruling, begun}
+use Rattle.vl_engine_model.specs.Rulings.Commit.{At, CommitAnswer, Conflict, Exhausted, Full, Halted, Nothing, commit_frame, commit_ruling}
+use Rattle.vl_engine_model.specs.declared.lock_history.LockEntry.{LockEntry}
+use Rattle.vl_engine_model.specs.declared.lock_history.LockStep.TheVariants.{Begun, Ended, Put}
 use Rattle.vl_model.specs.Reads.{Read}
 use Rattle.vl_model.specs.declared.change.Change.{Change}
 

@@ -19,12 +19,12 @@ use Rattle.vl_drive.specs.declared.trouble.Trouble.{Trouble}
 use Rattle.vl_drive.specs.declared.trouble.Trouble.TheVariants as trouble
 use Rattle.vl_drive.specs.laws.StepLaws.{by_parts, counted_aside, others_are}
 use Rattle.vl_drive.specs.laws.TurnLaws.{AreOfAccounts, crossing_none, crossing_some, turn_more}
-use Rattle.vl_layout.specs.LockHistory.{entries_by, number_of, open_tickets}
-use Rattle.vl_layout.specs.Rulings.Begin.{TooMany, begin_ruling}
-use Rattle.vl_layout.specs.Rulings.Commit.{Exhausted, Transaction, commit_ruling}
-use Rattle.vl_layout.specs.declared.lock_history.LockEntry.{LockEntry}
-use Rattle.vl_layout.specs.declared.lock_history.LockStep.{LockStep}
-use Rattle.vl_layout.specs.declared.lock_history.LockStep.TheVariants.{Put}
+use Rattle.vl_engine_model.specs.LockHistory.{entries_by, number_of, open_tickets}
+use Rattle.vl_engine_model.specs.Rulings.Begin.{TooMany, begin_ruling}
+use Rattle.vl_engine_model.specs.Rulings.Commit.{Exhausted, Transaction, commit_ruling}
+use Rattle.vl_engine_model.specs.declared.lock_history.LockEntry.{LockEntry}
+use Rattle.vl_engine_model.specs.declared.lock_history.LockStep.{LockStep}
+use Rattle.vl_engine_model.specs.declared.lock_history.LockStep.TheVariants.{Put}
 use Rattle.vl_model.specs.Conflicts.{first_conflict}
 use Rattle.vl_model.specs.History.{last_number}
 use Rattle.vl_model.specs.Reads.{Read}

@@ -12,9 +12,9 @@ use Rattle.vl_drive.specs.Turns.{AreTurns, EndsTurn, end_of}
 use Rattle.vl_drive.specs.declared.transfer.Transfer.{Transfer}
 use Rattle.vl_drive.specs.laws.StepLaws.{counted_aside, counted_own, counted_parts}
 use Rattle.vl_drive.specs.laws.TurnLaws.{turns_ended, turns_more, turns_none}
-use Rattle.vl_layout.specs.declared.lock_history.LockEntry.{LockEntry}
-use Rattle.vl_layout.specs.declared.lock_history.LockStep.{LockStep}
-use Rattle.vl_layout.specs.declared.lock_history.LockStep.TheVariants.{Begun, Changed, Ended, JobEnded, PassEnded, Picked, Planned, Put}
+use Rattle.vl_engine_model.specs.declared.lock_history.LockEntry.{LockEntry}
+use Rattle.vl_engine_model.specs.declared.lock_history.LockStep.{LockStep}
+use Rattle.vl_engine_model.specs.declared.lock_history.LockStep.TheVariants.{Begun, Changed, Ended, JobEnded, PassEnded, Picked, Planned, Put}
 use Rattle.vl_model.specs.Keys.{Writes}
 use mathlib.Core.List.{IsPrefix}
 

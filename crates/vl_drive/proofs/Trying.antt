@@ -11,13 +11,13 @@ use Rattle.vl_drive.specs.Steps.{Origin, entry_of, history_by, is_aside, layout_
 use Rattle.vl_drive.specs.declared.fails.Done.{Done}
 use Rattle.vl_drive.specs.declared.fails.Done.TheVariants as done
 use Rattle.vl_drive.specs.laws.TurnLaws.{commit_at, commit_conflict, commit_nothing}
-use Rattle.vl_layout.specs.Decides.{Answered, Outcome}
-use Rattle.vl_layout.specs.LockHistory.{OpenTicket, number_of, open_tickets, tickets_after}
-use Rattle.vl_layout.specs.Ruling.{ended, logged}
-use Rattle.vl_layout.specs.Rulings.Commit.{At, CommitAnswer, Conflict, Exhausted, Full, Nothing, commit_frame, commit_ruling}
-use Rattle.vl_layout.specs.declared.lock_history.LockEntry.{LockEntry}
-use Rattle.vl_layout.specs.declared.lock_history.LockStep.{LockStep}
-use Rattle.vl_layout.specs.declared.lock_history.LockStep.TheVariants.{Begun, Changed, Ended, JobEnded, PassEnded, Picked, Planned, Put}
+use Rattle.vl_engine_model.specs.Decides.{Answered, Outcome}
+use Rattle.vl_engine_model.specs.LockHistory.{OpenTicket, number_of, open_tickets, tickets_after}
+use Rattle.vl_engine_model.specs.Ruling.{ended, logged}
+use Rattle.vl_engine_model.specs.Rulings.Commit.{At, CommitAnswer, Conflict, Exhausted, Full, Nothing, commit_frame, commit_ruling}
+use Rattle.vl_engine_model.specs.declared.lock_history.LockEntry.{LockEntry}
+use Rattle.vl_engine_model.specs.declared.lock_history.LockStep.{LockStep}
+use Rattle.vl_engine_model.specs.declared.lock_history.LockStep.TheVariants.{Begun, Changed, Ended, JobEnded, PassEnded, Picked, Planned, Put}
 use Rattle.vl_model.specs.Reads.{Read}
 use Rattle.vl_model.specs.declared.change.Change.{Change}
 use Rattle.vl_model.specs.declared.counter.Counter.TheVariants.{Commit as CommitNumber}

@@ -10,7 +10,7 @@ use Rattle.vl_drive.specs.Playing.{HasBegun, HasEnded, HasTaken}
 use Rattle.vl_drive.specs.Steps.{history_by}
 use Rattle.vl_drive.specs.declared.transfer.Transfer.{Transfer}
 use Rattle.vl_drive.specs.laws.TurnLaws.{AreOfAccounts, turn_values}
-use Rattle.vl_layout.specs.declared.lock_history.LockEntry.{LockEntry}
+use Rattle.vl_engine_model.specs.declared.lock_history.LockEntry.{LockEntry}
 use Rattle.vl_model.specs.History.{History, value_at}
 use Rattle.vl_model.specs.Keys.{Writes, key_cmp}
 use Rattle.vl_model.specs.Reads.{KeyRead, Read}

@@ -20,12 +20,12 @@ use Rattle.vl_drive.specs.laws.TurnLaws.{commits-behind, turns_more, two_account
 use Rattle.vl_drive.proofs.Balances.{balance-kept, total-first, total-moved}
 use Rattle.vl_drive.proofs.Counts.{by_session, commits-counted, ends-counted}
 use Rattle.vl_drive.proofs.Sums.{sum-shared}
-use Rattle.vl_layout.specs.LockHistory.{commits_of, entries_by, put_after}
-use Rattle.vl_layout.specs.declared.lock_history.LockEntry.{LockEntry}
-use Rattle.vl_layout.specs.declared.lock_history.LockStep.{LockStep}
-use Rattle.vl_layout.specs.declared.lock_history.LockStep.TheVariants.{Begun, Changed, Ended, JobEnded, PassEnded}
-use Rattle.vl_layout.specs.declared.lock_history.LockStep.TheVariants.{Picked, Planned, Put}
-use Rattle.vl_layout.specs.laws.LockHistoryLaws.{commits_of-append, history_of-same}
+use Rattle.vl_engine_model.specs.LockHistory.{commits_of, entries_by, put_after}
+use Rattle.vl_engine_model.specs.declared.lock_history.LockEntry.{LockEntry}
+use Rattle.vl_engine_model.specs.declared.lock_history.LockStep.{LockStep}
+use Rattle.vl_engine_model.specs.declared.lock_history.LockStep.TheVariants.{Begun, Changed, Ended, JobEnded, PassEnded}
+use Rattle.vl_engine_model.specs.declared.lock_history.LockStep.TheVariants.{Picked, Planned, Put}
+use Rattle.vl_engine_model.specs.laws.LockHistoryLaws.{commits_of-append, history_of-same}
 use Rattle.vl_model.specs.History.{last_number, with_commit}
 use Rattle.vl_model.specs.Keys.{Writes}
 use Rattle.vl_model.specs.declared.change.Change.{Change}

@@ -16,10 +16,10 @@ use Rattle.vl_drive.specs.Steps.{Origin, history_by, layout_by}
 use Rattle.vl_drive.specs.Stores.{AreFirst, AreOf, Opened}
 use Rattle.vl_drive.specs.declared.trouble.Cause.{Cause}
 use Rattle.vl_drive.specs.declared.trouble.Cause.TheVariants as cause
-use Rattle.vl_layout.specs.LockHistory.{HasOpen, nothing_open}
-use Rattle.vl_layout.specs.Rulings.Begin.{TooMany, begin_ruling}
-use Rattle.vl_layout.specs.Rulings.Commit.{Exhausted, commit_ruling}
-use Rattle.vl_layout.specs.declared.lock_history.LockEntry.{LockEntry}
+use Rattle.vl_engine_model.specs.LockHistory.{HasOpen, nothing_open}
+use Rattle.vl_engine_model.specs.Rulings.Begin.{TooMany, begin_ruling}
+use Rattle.vl_engine_model.specs.Rulings.Commit.{Exhausted, commit_ruling}
+use Rattle.vl_engine_model.specs.declared.lock_history.LockEntry.{LockEntry}
 use Rattle.vl_model.specs.Limits.{max_commit_number}
 use Rattle.vl_model.specs.declared.counter.Counter.TheVariants.{Commit as CommitNumber}
 use mathlib.Core.List.{IsPrefix}

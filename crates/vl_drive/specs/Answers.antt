@@ -10,11 +10,11 @@ use Rattle.vl_drive.specs.declared.fails.ReadFail.{ReadFail}
 use Rattle.vl_drive.specs.declared.fails.ReadFail.TheVariants as read_fail
 use Rattle.vl_drive.specs.declared.fails.StepFail.{StepFail}
 use Rattle.vl_drive.specs.declared.fails.StepFail.TheVariants as step_fail
-use Rattle.vl_layout.specs.Decides.{Answered, Failed, NoMemory, Outcome}
-use Rattle.vl_layout.specs.Rulings.Begin as begin
-use Rattle.vl_layout.specs.Rulings.Begin.{BeginAnswer}
-use Rattle.vl_layout.specs.Rulings.Commit as commit
-use Rattle.vl_layout.specs.Rulings.Commit.{CommitAnswer, Transaction}
+use Rattle.vl_engine_model.specs.Decides.{Answered, Failed, NoMemory, Outcome}
+use Rattle.vl_engine_model.specs.Rulings.Begin as begin
+use Rattle.vl_engine_model.specs.Rulings.Begin.{BeginAnswer}
+use Rattle.vl_engine_model.specs.Rulings.Commit as commit
+use Rattle.vl_engine_model.specs.Rulings.Commit.{CommitAnswer, Transaction}
 use Rattle.vl_model.specs.Reads.{Read}
 use Rattle.vl_model.specs.declared.change.Change.{Change}
 use Rattle.vl_model.specs.declared.counter.Counter.TheVariants.{Commit as CommitNumber}

@@ -7,9 +7,9 @@ use Rattle.vl_drive.specs.Numbers.{transfer_in}
 use Rattle.vl_drive.specs.Steps.{count_by, is_end}
 use Rattle.vl_drive.specs.Turns.{AreTurns, IsOpenedBy}
 use Rattle.vl_drive.specs.declared.transfer.Transfer.{Transfer}
-use Rattle.vl_layout.specs.LockHistory.{entries_by}
-use Rattle.vl_layout.specs.declared.lock_history.LockEntry.{LockEntry}
-use Rattle.vl_layout.specs.declared.lock_history.LockStep.{LockStep}
+use Rattle.vl_engine_model.specs.LockHistory.{entries_by}
+use Rattle.vl_engine_model.specs.declared.lock_history.LockEntry.{LockEntry}
+use Rattle.vl_engine_model.specs.declared.lock_history.LockStep.{LockStep}
 use mathlib.Core.List.{IsPrefix}
 
 -- A client took so many turns. Up to the last of them its own steps are all of its in what it has seen.

@@ -3,11 +3,11 @@ use Rattle.std.specs.Prelude.{◌≡◌, ◌⊎◌, ◌<◌, ◌≤◌, ℕ, Boo
 use Rattle.std.specs.List.{AllByRecursion}
 use Rattle.atomic_table.specs.Seated.{TableId}
 use Rattle.vl_drive.specs.Steps.{Origin, history_by, is_aside, layout_by}
-use Rattle.vl_layout.specs.Decides.{Answered, Outcome}
-use Rattle.vl_layout.specs.LockHistory.{IsLegal, entries_by, number_of, open_tickets}
-use Rattle.vl_layout.specs.Ruling.{Ruling}
-use Rattle.vl_layout.specs.declared.layout.Layout.{Layout}
-use Rattle.vl_layout.specs.declared.lock_history.LockEntry.{LockEntry}
+use Rattle.vl_engine_model.specs.Decides.{Answered, Outcome}
+use Rattle.vl_engine_model.specs.LockHistory.{IsLegal, entries_by, number_of, open_tickets}
+use Rattle.vl_engine_model.specs.Ruling.{Ruling}
+use Rattle.vl_engine_model.specs.declared.layout.Layout.{Layout}
+use Rattle.vl_engine_model.specs.declared.lock_history.LockEntry.{LockEntry}
 use Rattle.vl_model.specs.History.{History}
 use mathlib.Core.List.{IsPrefix}
 

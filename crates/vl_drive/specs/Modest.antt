@@ -3,8 +3,8 @@ use Rattle.std.specs.Prelude.{◌≡◌, ◌≤◌, ℕ, ◌+◌, List, [], ◌�
 use Rattle.std.specs.List.{AllByRecursion}
 use Rattle.vl_drive.specs.Knowing.{Knows}
 use Rattle.vl_drive.specs.Steps.{count_by, is_put}
-use Rattle.vl_layout.specs.LockHistory.{open_tickets}
-use Rattle.vl_layout.specs.declared.lock_history.LockEntry.{LockEntry}
+use Rattle.vl_engine_model.specs.LockHistory.{open_tickets}
+use Rattle.vl_engine_model.specs.declared.lock_history.LockEntry.{LockEntry}
 use mathlib.Core.List.{IsPrefix}
 
 -- behind each of these steps at most one of their session's transactions lives

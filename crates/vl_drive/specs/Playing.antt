@@ -12,12 +12,12 @@ use Rattle.vl_drive.specs.declared.trouble.Cause.{Cause}
 use Rattle.vl_drive.specs.declared.trouble.Cause.TheVariants as cause
 use Rattle.vl_drive.specs.declared.trouble.Trouble.{Trouble}
 use Rattle.vl_drive.specs.declared.trouble.Trouble.TheVariants as trouble
-use Rattle.vl_layout.specs.LockHistory.{entries_by}
-use Rattle.vl_layout.specs.Rulings.Begin.{TooMany, begin_ruling}
-use Rattle.vl_layout.specs.Rulings.Commit.{Exhausted, Transaction, commit_ruling}
-use Rattle.vl_layout.specs.declared.lock_history.LockEntry.{LockEntry}
-use Rattle.vl_layout.specs.declared.lock_history.LockStep.{LockStep}
-use Rattle.vl_layout.specs.declared.lock_history.LockStep.TheVariants.{Ended, Put}
+use Rattle.vl_engine_model.specs.LockHistory.{entries_by}
+use Rattle.vl_engine_model.specs.Rulings.Begin.{TooMany, begin_ruling}
+use Rattle.vl_engine_model.specs.Rulings.Commit.{Exhausted, Transaction, commit_ruling}
+use Rattle.vl_engine_model.specs.declared.lock_history.LockEntry.{LockEntry}
+use Rattle.vl_engine_model.specs.declared.lock_history.LockStep.{LockStep}
+use Rattle.vl_engine_model.specs.declared.lock_history.LockStep.TheVariants.{Ended, Put}
 use Rattle.vl_model.specs.Conflicts.{Named, first_conflict}
 use Rattle.vl_model.specs.History.{last_number}
 use Rattle.vl_model.specs.declared.counter.Counter.TheVariants.{Commit as CommitNumber}

@@ -7,7 +7,7 @@ ghost use Rattle.vl_drive.specs.Modest.{IsBusy, IsIdle, IsModest};
 ghost use Rattle.vl_drive.specs.Numbers.{number_in_turn, transfer_of};
 ghost use Rattle.vl_drive.specs.Playing.{HasBegun, HasScored, HasTaken, IsTrouble};
 ghost use Rattle.vl_drive.specs.Steps.{history_by};
-ghost use Rattle.vl_layout.specs.declared.lock_history.LockEntry.{LockEntry};
+ghost use Rattle.vl_engine_model.specs.declared.lock_history.LockEntry.{LockEntry};
 ghost use Rattle.vl_model.specs.History.{History, value_at};
 ghost use Rattle.vl_model.specs.Reads.{KeyRead, Read};
 

@@ -3,8 +3,8 @@ ghost use Rattle.vl_drive.specs.Driven.{IsClosed};
 ghost use Rattle.vl_drive.specs.Knowing.{Knows};
 ghost use Rattle.vl_drive.specs.Steps.{history_by};
 ghost use Rattle.vl_drive.specs.Stores.{AreFirst, AreOf, Opened};
-ghost use Rattle.vl_layout.specs.LockHistory.{HasOpen, nothing_open};
-ghost use Rattle.vl_layout.specs.declared.lock_history.LockEntry.{LockEntry};
+ghost use Rattle.vl_engine_model.specs.LockHistory.{HasOpen, nothing_open};
+ghost use Rattle.vl_engine_model.specs.declared.lock_history.LockEntry.{LockEntry};
 ghost use Rattle.vl_model.specs.History.{History, last_number, value_at};
 
 use crate::shop::Shop;

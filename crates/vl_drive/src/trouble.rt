@@ -2,7 +2,7 @@
 
 use crate::fails::{BeginFail, ReadFail, StepFail};
 use std::alloc::AllocError;
-use vl_layout::FileName;
+use vl_engine_model::FileName;
 
 /// Why clients stopped before their last turn.
 #[derive(Drop)]

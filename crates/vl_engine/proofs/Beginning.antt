@@ -6,28 +6,28 @@ use Rattle.std.proofs.lemmas.List.{length-map}
 use Rattle.std.proofs.lemmas.Bool.Decides.{nat_tests}
 use Rattle.vl_engine.specs.Answers.{begin_outcome, view_outcome}
 use Rattle.vl_engine.specs.Past.{ShowsPast, beginning, past_now}
-use Rattle.vl_core.specs.Pointed.{layout_logs}
-use Rattle.vl_core.specs.Represents.{Fronts, StandsFor}
+use Rattle.vl_engine_laws.specs.Pointed.{layout_logs}
+use Rattle.vl_engine_laws.specs.Represents.{Fronts, StandsFor}
 use Rattle.vl_engine.specs.Sees.{SeesAlone, ShowsAt}
-use Rattle.vl_core.specs.declared.kept.Core.{Core}
+use Rattle.vl_engine_laws.specs.declared.kept.Core.{Core}
 use Rattle.vl_engine.specs.declared.past.Past.{Past}
 use Rattle.vl_engine.specs.declared.txn.Txn.{Txn}
 use Rattle.vl_engine.specs.declared.view.View.{View}
-use Rattle.vl_core.specs.laws.LaidLaws.{laid_entries}
-use Rattle.vl_core.specs.laws.LiveLaws.{same_floor, same_free_ticket}
-use Rattle.vl_core.specs.laws.SparedLaws.{are_of, low_exact}
+use Rattle.vl_engine_laws.specs.laws.LaidLaws.{laid_entries}
+use Rattle.vl_engine_laws.specs.laws.LiveLaws.{same_floor, same_free_ticket}
+use Rattle.vl_engine_laws.specs.laws.SparedLaws.{are_of, low_exact}
 use Rattle.vl_engine.specs.laws.SeesLaws.{file_in, files_laid, shows_last}
 use Rattle.vl_front.specs.declared.front.Front.{Front}
-use Rattle.vl_layout.specs.AtAnswer.{Beginning, beginning_of}
-use Rattle.vl_layout.specs.Decides.{Answered, Decides, NoMemory, as_before, no_effects}
-use Rattle.vl_layout.specs.Ruling.{Ruling, leaving}
-use Rattle.vl_layout.specs.Rulings.Begin.{BeginAnswer, Begun, TooMany, begin_ruling, begun}
-use Rattle.vl_layout.specs.Shows.{Shows}
-use Rattle.vl_layout.specs.Sources.{floor, sources}
-use Rattle.vl_layout.specs.Tickets.{free_ticket, tickets_of}
-use Rattle.vl_layout.specs.declared.layout.Layout.{Layout}
-use Rattle.vl_layout.specs.declared.live.Live.{Live}
-use Rattle.vl_layout.specs.laws.LowShows.{floor-up}
+use Rattle.vl_engine_model.specs.AtAnswer.{Beginning, beginning_of}
+use Rattle.vl_engine_model.specs.Decides.{Answered, Decides, NoMemory, as_before, no_effects}
+use Rattle.vl_engine_model.specs.Ruling.{Ruling, leaving}
+use Rattle.vl_engine_model.specs.Rulings.Begin.{BeginAnswer, Begun, TooMany, begin_ruling, begun}
+use Rattle.vl_engine_model.specs.Shows.{Shows}
+use Rattle.vl_engine_model.specs.Sources.{floor, sources}
+use Rattle.vl_engine_model.specs.Tickets.{free_ticket, tickets_of}
+use Rattle.vl_engine_model.specs.declared.layout.Layout.{Layout}
+use Rattle.vl_engine_model.specs.declared.live.Live.{Live}
+use Rattle.vl_engine_model.specs.laws.LowShows.{floor-up}
 use Rattle.vl_model.specs.History.{History, last_number}
 use Rattle.vl_model.specs.Limits.{max_live}
 use Rattle.vl_model.specs.Numbers.{low_of}

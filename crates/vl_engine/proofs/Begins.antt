@@ -15,10 +15,10 @@ use Rattle.vl_disk.specs.Performs.{FailedAt, Performs, calls_on}
 use Rattle.vl_disk.specs.declared.name.Name.TheVariants as names
 use Rattle.vl_disk.specs.declared.name.Name.{Name}
 use Rattle.vl_disk.specs.declared.watched.Watched.{Ghosts}
-use Rattle.vl_core.specs.Known.{are_known}
-use Rattle.vl_core.specs.RotateFacts.{at_new_log}
-use Rattle.vl_core.specs.RotateFacts.{BeginsLog, IsNextBack, IsNextVersion, IsSameBack, StopsRotating, next_header, next_name}
-use Rattle.vl_core.specs.declared.kept.Core.{Core}
+use Rattle.vl_engine_laws.specs.Known.{are_known}
+use Rattle.vl_engine_laws.specs.RotateFacts.{at_new_log}
+use Rattle.vl_engine_laws.specs.RotateFacts.{BeginsLog, IsNextBack, IsNextVersion, IsSameBack, StopsRotating, next_header, next_name}
+use Rattle.vl_engine_laws.specs.declared.kept.Core.{Core}
 use Rattle.vl_front.specs.declared.front.Front.{Front}
 use Rattle.vl_manifest.specs.declared.state.ManifestState.{ManifestState}
 use Rattle.vl_manifest.specs.declared.waiting.Waiting.{Waiting}

@@ -4,15 +4,15 @@ use Rattle.std.specs.Prelude.{Result, Ok, Err, OnErr, refl}
 use Rattle.std.specs.List.{AllByRecursion, filter}
 use Rattle.std.specs.Option.{option_map}
 use Rattle.std.proofs.Common.{sym, ap, subst, ◌∙◌}
-use Rattle.vl_block.specs.declared.points.Point.{Point}
-use Rattle.vl_core.specs.Files.{IsLogFile}
-use Rattle.vl_core.specs.MayStep.{AreLogFiles}
-use Rattle.vl_core.specs.Passing.{AreReadable}
-use Rattle.vl_core.specs.Represents.{Fronts, StandsFor}
-use Rattle.vl_core.specs.declared.kept.Core.{Core}
-use Rattle.vl_core.specs.laws.FileLaws.{all_filtered}
-use Rattle.vl_core.specs.laws.LaidTables.{tables_are}
-use Rattle.vl_core.specs.laws.NeededLogs.{head_there}
+use Rattle.vl_model.specs.declared.point.Point.{Point}
+use Rattle.vl_engine_laws.specs.Files.{IsLogFile}
+use Rattle.vl_engine_laws.specs.MayStep.{AreLogFiles}
+use Rattle.vl_engine_laws.specs.Passing.{AreReadable}
+use Rattle.vl_engine_laws.specs.Represents.{Fronts, StandsFor}
+use Rattle.vl_engine_laws.specs.declared.kept.Core.{Core}
+use Rattle.vl_engine_laws.specs.laws.FileLaws.{all_filtered}
+use Rattle.vl_engine_laws.specs.laws.LaidTables.{tables_are}
+use Rattle.vl_engine_laws.specs.laws.NeededLogs.{head_there}
 use Rattle.vl_disk.specs.declared.watched.Watched.{Ghosts}
 use Rattle.vl_engine.proofs.Readable.{oldest_readable}
 use Rattle.vl_engine.proofs.Tallying.{inputs_held, lengths_held, points_held}
@@ -24,19 +24,19 @@ use Rattle.vl_engine.specs.Stepping.{step_outcome}
 use Rattle.vl_engine.specs.declared.fails.StepFail.TheVariants as fails
 use Rattle.vl_engine.specs.declared.fails.StepFail.{StepFail}
 use Rattle.vl_engine.specs.declared.open.Collecting.{Collecting}
-use Rattle.vl_layout.specs.Decides.{Answered, Damaged, Decides, Effects, Failed, NoMemory, Otherwise, Outcome, as_before}
-use Rattle.vl_layout.specs.Levels.{in_front, is_among}
-use Rattle.vl_layout.specs.Ruling.{Exhausted, Halted, Idle, Ruling, StepAnswer, Stepped, halted_at, has_no_number}
-use Rattle.vl_layout.specs.Ruling.{has_no_version, is_idle, leaving}
-use Rattle.vl_layout.specs.Rulings.Flush.{covered_by, flush_of, flush_ruling, flush_unless, flushed, flushed_table}
-use Rattle.vl_layout.specs.Rulings.Rotate.{rotate_of, rotate_ruling, rotate_unless, rotated}
-use Rattle.vl_layout.specs.Sources.{but_oldest, head, oldest, rising, tables}
-use Rattle.vl_layout.specs.Tidy.{log_numbers, sealed}
-use Rattle.vl_layout.specs.declared.file_name.FileName.{FileName}
-use Rattle.vl_layout.specs.declared.job.OpenPass.{OpenPass}
-use Rattle.vl_layout.specs.declared.layout.Layout.{Layout}
-use Rattle.vl_layout.specs.declared.segment.Segment.{Segment}
-use Rattle.vl_layout.specs.declared.table.Table as laid
+use Rattle.vl_engine_model.specs.Decides.{Answered, Damaged, Decides, Effects, Failed, NoMemory, Otherwise, Outcome, as_before}
+use Rattle.vl_engine_model.specs.Levels.{in_front, is_among}
+use Rattle.vl_engine_model.specs.Ruling.{Exhausted, Halted, Idle, Ruling, StepAnswer, Stepped, halted_at, has_no_number}
+use Rattle.vl_engine_model.specs.Ruling.{has_no_version, is_idle, leaving}
+use Rattle.vl_engine_model.specs.Rulings.Flush.{covered_by, flush_of, flush_ruling, flush_unless, flushed, flushed_table}
+use Rattle.vl_engine_model.specs.Rulings.Rotate.{rotate_of, rotate_ruling, rotate_unless, rotated}
+use Rattle.vl_engine_model.specs.Sources.{but_oldest, head, oldest, rising, tables}
+use Rattle.vl_engine_model.specs.Tidy.{log_numbers, sealed}
+use Rattle.vl_engine_model.specs.declared.file_name.FileName.{FileName}
+use Rattle.vl_engine_model.specs.declared.job.OpenPass.{OpenPass}
+use Rattle.vl_engine_model.specs.declared.layout.Layout.{Layout}
+use Rattle.vl_engine_model.specs.declared.segment.Segment.{Segment}
+use Rattle.vl_engine_model.specs.declared.table.Table as laid
 use Rattle.vl_model.specs.History.{History}
 use Rattle.vl_model.specs.Numbers.{has}
 use Rattle.vl_model.specs.declared.counter.Counter.TheVariants as counters

@@ -12,32 +12,32 @@ use Rattle.vl_disk.specs.DiskState.{DiskState}
 use Rattle.vl_disk.specs.Moments.{Elapses}
 use Rattle.vl_disk.specs.declared.name.Name.TheVariants as names
 use Rattle.vl_disk.specs.declared.watched.Watched.{Ghosts}
-use Rattle.vl_core.specs.laws.Carrying.{IsWatched, carries_committed, carries_failed, carries_leaving, carries_no_memory, extends_itself}
-use Rattle.vl_core.specs.laws.Knowing.{knows_of}
-use Rattle.vl_core.specs.laws.Represented.{represents_live}
-use Rattle.vl_core.specs.laws.Standing.{decides_as, fronts_committed, fronts_ended, fronts_halted, stands_committed}
-use Rattle.vl_core.specs.laws.Standing.{stands_ended, stands_halted}
-use Rattle.vl_core.specs.Carries.{Carries}
-use Rattle.vl_core.specs.Laid.{HasLayout}
-use Rattle.vl_core.specs.Represents.{Fronts, Represents, StandsFor, file_of}
+use Rattle.vl_engine_laws.specs.laws.Carrying.{IsWatched, carries_committed, carries_failed, carries_leaving, carries_no_memory, extends_itself}
+use Rattle.vl_engine_laws.specs.laws.Knowing.{knows_of}
+use Rattle.vl_engine_laws.specs.laws.Represented.{represents_live}
+use Rattle.vl_engine_laws.specs.laws.Standing.{decides_as, fronts_committed, fronts_ended, fronts_halted, stands_committed}
+use Rattle.vl_engine_laws.specs.laws.Standing.{stands_ended, stands_halted}
+use Rattle.vl_engine_laws.specs.Carries.{Carries}
+use Rattle.vl_engine_laws.specs.Laid.{HasLayout}
+use Rattle.vl_engine_laws.specs.Represents.{Fronts, Represents, StandsFor, file_of}
 use Rattle.vl_engine.specs.Staging.{next_frame}
 use Rattle.vl_engine.specs.Steps.{IsFailed, IsUnwritten, IsWritten, frame_of}
-use Rattle.vl_core.specs.Writing.{WhileWriting, written}
-use Rattle.vl_core.specs.declared.kept.Core.{Core}
-use Rattle.vl_core.specs.laws.FrontLaws.{front_known}
-use Rattle.vl_core.specs.laws.RulingLaws.{IsAccepted, answered_accepted, ruled, ruled_so}
-use Rattle.vl_core.specs.laws.VersionLaws.{next_entries}
+use Rattle.vl_engine_laws.specs.Writing.{WhileWriting, written}
+use Rattle.vl_engine_laws.specs.declared.kept.Core.{Core}
+use Rattle.vl_engine_laws.specs.laws.FrontLaws.{front_known}
+use Rattle.vl_engine_laws.specs.laws.RulingLaws.{IsAccepted, answered_accepted, ruled, ruled_so}
+use Rattle.vl_engine_laws.specs.laws.VersionLaws.{next_entries}
 use Rattle.vl_frame.specs.Runs.{HasFrame}
 use Rattle.vl_front.specs.Decisions.{decision_of}
 use Rattle.vl_front.specs.Front.{IsSame, Knows}
 use Rattle.vl_front.specs.declared.decision.Decision.TheVariants as decisions
 use Rattle.vl_front.specs.declared.decision.Decision.{Decision}
-use Rattle.vl_layout.specs.Decides.{Answered, Decides, Effects, Failed, NoMemory, Otherwise, as_before, effects_of, no_effects}
-use Rattle.vl_layout.specs.Logs.{frame_entries}
-use Rattle.vl_layout.specs.Ruling.{Ruling, ended, halted_at, leaving}
-use Rattle.vl_layout.specs.Rulings.Commit.{At, CommitAnswer, Transaction, commit_frame, commit_lost, commit_ruling, committed}
-use Rattle.vl_layout.specs.declared.file_name.FileName.{FileName}
-use Rattle.vl_layout.specs.declared.layout.Layout.{Layout}
+use Rattle.vl_engine_model.specs.Decides.{Answered, Decides, Effects, Failed, NoMemory, Otherwise, as_before, effects_of, no_effects}
+use Rattle.vl_engine_model.specs.Logs.{frame_entries}
+use Rattle.vl_engine_model.specs.Ruling.{Ruling, ended, halted_at, leaving}
+use Rattle.vl_engine_model.specs.Rulings.Commit.{At, CommitAnswer, Transaction, commit_frame, commit_lost, commit_ruling, committed}
+use Rattle.vl_engine_model.specs.declared.file_name.FileName.{FileName}
+use Rattle.vl_engine_model.specs.declared.layout.Layout.{Layout}
 use Rattle.vl_model.specs.Conflicts.{first_conflict}
 use Rattle.vl_model.specs.Entries.{in_order}
 use Rattle.vl_model.specs.Formats.{log_format}

@@ -15,12 +15,12 @@ use Rattle.vl_disk.specs.declared.name.Name.TheVariants as names
 use Rattle.vl_disk.specs.declared.name.Name.{Name}
 use Rattle.vl_disk.specs.declared.watched.Watched.{Ghosts}
 use Rattle.vl_disk.specs.laws.NameMap.{get_removed}
-use Rattle.vl_core.specs.laws.FlushKeeps.{stands_kept}
+use Rattle.vl_engine_laws.specs.laws.FlushKeeps.{stands_kept}
 use Rattle.vl_engine.proofs.Lending.{leaves_staged, leaves_written, still_lent}
 use Rattle.vl_engine.specs.Drawing.{IsLentMore, IsNewTo, IsSameMerge, LendsNew, drawn_core, lent_new}
-use Rattle.vl_core.specs.Fit.{IsFitFor}
+use Rattle.vl_engine_laws.specs.Fit.{IsFitFor}
 use Rattle.vl_engine.specs.Lent.{AreLent, IsLent, LeavesLent}
-use Rattle.vl_core.specs.declared.kept.Core.{Core}
+use Rattle.vl_engine_laws.specs.declared.kept.Core.{Core}
 use Rattle.vl_engine.specs.declared.open.OpenMerge.{OpenMerge}
 use Rattle.vl_model.specs.Numbers.{has}
 use Rattle.vl_recover.specs.laws.crash.OneName.{elsewhere_then}

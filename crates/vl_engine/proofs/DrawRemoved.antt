@@ -9,9 +9,9 @@ use Rattle.std.proofs.Common.{sym, ap, subst, ◌∙◌, arith}
 use Rattle.std.proofs.lemmas.Bool.Decides.{nat_tests}
 use Rattle.std.proofs.lemmas.List.Elements.{All-tail}
 use Rattle.vl_compact.specs.declared.files.Lent.{Lent}
-use Rattle.vl_core.specs.Carries.{StaysUntold}
-use Rattle.vl_core.specs.Fit.{IsFitFor}
-use Rattle.vl_core.specs.declared.kept.Core.{Core}
+use Rattle.vl_engine_laws.specs.Carries.{StaysUntold}
+use Rattle.vl_engine_laws.specs.Fit.{IsFitFor}
+use Rattle.vl_engine_laws.specs.declared.kept.Core.{Core}
 use Rattle.vl_disk.specs.Disk.{IsChangedBy, IsFree, Stands}
 use Rattle.vl_disk.specs.DiskState.{DiskState}
 use Rattle.vl_disk.specs.declared.name.Name.TheVariants.{Log, Table}
@@ -27,10 +27,10 @@ use Rattle.vl_engine.specs.Removing.{all_retired, are_distinct, are_unused, is_n
 use Rattle.vl_engine.specs.Removing.{standing_names, tables_in_use, with_number}
 use Rattle.vl_engine.specs.declared.open.OpenMerge.{OpenMerge}
 use Rattle.vl_engine.specs.declared.open.Removing.{Removing}
-use Rattle.vl_layout.specs.Jobs.{lent_numbers}
-use Rattle.vl_layout.specs.Rulings.Fresh.{drawn, lent_to}
-use Rattle.vl_layout.specs.declared.job.OpenJob.{OpenJob}
-use Rattle.vl_layout.specs.declared.layout.Layout.{Layout}
+use Rattle.vl_engine_model.specs.Jobs.{lent_numbers}
+use Rattle.vl_engine_model.specs.Rulings.Fresh.{drawn, lent_to}
+use Rattle.vl_engine_model.specs.declared.job.OpenJob.{OpenJob}
+use Rattle.vl_engine_model.specs.declared.layout.Layout.{Layout}
 use Rattle.vl_model.specs.Numbers.{has}
 use Rattle.vl_pins.specs.Pins.{ArePinsOf}
 use Rattle.vl_pins.specs.declared.in_use.InUse.{InUse}

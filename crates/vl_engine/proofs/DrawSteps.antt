@@ -8,20 +8,20 @@ use Rattle.vl_disk.specs.Performs.{StopsAmong}
 use Rattle.vl_disk.specs.declared.name.Name.TheVariants as names
 use Rattle.vl_disk.specs.declared.name.Name.{Name}
 use Rattle.vl_disk.specs.declared.watched.Watched.{Ghosts}
-use Rattle.vl_core.specs.laws.Carrying.{IsWatched, carries_leaving, carries_no_memory, extends_itself}
+use Rattle.vl_engine_laws.specs.laws.Carrying.{IsWatched, carries_leaving, carries_no_memory, extends_itself}
 use Rattle.vl_engine.proofs.Committing.{decides_answered, decides_failed, decides_leaving}
 use Rattle.vl_engine.proofs.Drawing.{carries_drawn, carries_undrawn, drawn_ruling, is_drawn, is_exhausted, is_halted, runs}
-use Rattle.vl_core.specs.Carries.{Carries}
+use Rattle.vl_engine_laws.specs.Carries.{Carries}
 use Rattle.vl_engine.specs.Drawing.{LendsNew, StopsDrawing, WritesFresh, drawn_core, lent_new}
-use Rattle.vl_core.specs.Represents.{Fronts, Represents, file_of}
-use Rattle.vl_core.specs.MayStep.{HasNumbers}
-use Rattle.vl_core.specs.declared.kept.Core.{Core}
-use Rattle.vl_layout.specs.Decides.{Answered, Decides, Effects, Failed, NoMemory, as_before, no_effects}
-use Rattle.vl_layout.specs.Ruling.{Ruling, halted_at, has_no_number, leaving}
-use Rattle.vl_layout.specs.Rulings.Fresh as ruling
-use Rattle.vl_layout.specs.Rulings.Fresh.{Drawn, FreshAnswer, drawn, fresh_ruling, fresh_unless}
-use Rattle.vl_layout.specs.declared.file_name.FileName.{FileName}
-use Rattle.vl_layout.specs.declared.layout.Layout.{Layout}
+use Rattle.vl_engine_laws.specs.Represents.{Fronts, Represents, file_of}
+use Rattle.vl_engine_laws.specs.MayStep.{HasNumbers}
+use Rattle.vl_engine_laws.specs.declared.kept.Core.{Core}
+use Rattle.vl_engine_model.specs.Decides.{Answered, Decides, Effects, Failed, NoMemory, as_before, no_effects}
+use Rattle.vl_engine_model.specs.Ruling.{Ruling, halted_at, has_no_number, leaving}
+use Rattle.vl_engine_model.specs.Rulings.Fresh as ruling
+use Rattle.vl_engine_model.specs.Rulings.Fresh.{Drawn, FreshAnswer, drawn, fresh_ruling, fresh_unless}
+use Rattle.vl_engine_model.specs.declared.file_name.FileName.{FileName}
+use Rattle.vl_engine_model.specs.declared.layout.Layout.{Layout}
 use Rattle.vl_manifest.specs.declared.state.ManifestState.{ManifestState}
 use Rattle.vl_model.specs.History.{Extends, History}
 use Rattle.vl_model.specs.Limits.{max_file_number}

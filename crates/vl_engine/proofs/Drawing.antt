@@ -16,38 +16,38 @@ use Rattle.vl_disk.specs.Name.{IsNumbered}
 use Rattle.vl_disk.specs.declared.name.Name.TheVariants as names
 use Rattle.vl_disk.specs.declared.name.Name.{Name}
 use Rattle.vl_disk.specs.declared.watched.Watched.{Ghosts}
-use Rattle.vl_core.specs.laws.Carrying.{IsWatched, looked}
+use Rattle.vl_engine_laws.specs.laws.Carrying.{IsWatched, looked}
 use Rattle.vl_engine.proofs.Committing.{decides_answered, decides_failed}
-use Rattle.vl_core.specs.laws.FlushKeeps.{as_many}
+use Rattle.vl_engine_laws.specs.laws.FlushKeeps.{as_many}
 use Rattle.vl_engine.proofs.FlushSteps.{fronts_unflushed}
 use Rattle.vl_engine.proofs.Leaving.{base_numbers, manifest_held}
-use Rattle.vl_core.specs.laws.Represented.{represents_halted}
-use Rattle.vl_core.specs.laws.Standing.{stands_halted}
-use Rattle.vl_core.specs.Carries.{Carries, CrashesShow, Tells}
+use Rattle.vl_engine_laws.specs.laws.Represented.{represents_halted}
+use Rattle.vl_engine_laws.specs.laws.Standing.{stands_halted}
+use Rattle.vl_engine_laws.specs.Carries.{Carries, CrashesShow, Tells}
 use Rattle.vl_engine.specs.Drawing.{IsDrawn, IsLentMore, IsSameMerge, WhileLent, WritesFresh, drawn_core, lent_new}
-use Rattle.vl_core.specs.Held.{AreBegun, Base}
+use Rattle.vl_engine_laws.specs.Held.{AreBegun, Base}
 use Rattle.vl_engine.specs.Lent.{Opens}
-use Rattle.vl_core.specs.Pointed.{layout_logs}
-use Rattle.vl_core.specs.Represents.{Fronts, IsHeld, Represents, StandsFor, file_of}
-use Rattle.vl_core.specs.Shown.{LeavesBetween}
-use Rattle.vl_core.specs.MayStep.{Fits, LeavesNumbers, MayStep}
-use Rattle.vl_core.specs.declared.kept.Core.{Core}
+use Rattle.vl_engine_laws.specs.Pointed.{layout_logs}
+use Rattle.vl_engine_laws.specs.Represents.{Fronts, IsHeld, Represents, StandsFor, file_of}
+use Rattle.vl_engine_laws.specs.Shown.{LeavesBetween}
+use Rattle.vl_engine_laws.specs.MayStep.{Fits, LeavesNumbers, MayStep}
+use Rattle.vl_engine_laws.specs.declared.kept.Core.{Core}
 use Rattle.vl_engine.specs.declared.open.OpenMerge.{OpenMerge}
-use Rattle.vl_core.specs.laws.AsideLaws.{base_aside, fronts_aside, holds_aside, stands_aside}
-use Rattle.vl_core.specs.laws.HeldLaws.{held_opens_again}
-use Rattle.vl_core.specs.laws.InstallBeside.{base_beside, creating_leaves, creating_opens_again, lending_leaves}
-use Rattle.vl_core.specs.laws.InstallBeside.{lending_opens_again, lent_holds, tables_below}
-use Rattle.vl_core.specs.laws.KeptLaws.{AreOtherTables, nothing_elsewhere}
-use Rattle.vl_layout.specs.Decides.{Answered, Effects, Failed, as_before, no_effects}
-use Rattle.vl_layout.specs.Ruling.{Ruling, halted_at, has_no_number, leaving}
-use Rattle.vl_layout.specs.Rulings.Fresh as ruling
-use Rattle.vl_layout.specs.Rulings.Fresh.{Drawn, FreshAnswer, drawn, fresh_ruling, fresh_unless, lent_to}
-use Rattle.vl_layout.specs.Sources.{tables}
-use Rattle.vl_layout.specs.Tidy.{IsTidy}
-use Rattle.vl_layout.specs.declared.file_name.FileName.{FileName}
-use Rattle.vl_layout.specs.declared.job.OpenJob.{OpenJob}
-use Rattle.vl_layout.specs.declared.layout.Layout.{Layout}
-use Rattle.vl_layout_laws.specs.laws.TidySteps.{tidy_drawn}
+use Rattle.vl_engine_laws.specs.laws.AsideLaws.{base_aside, fronts_aside, holds_aside, stands_aside}
+use Rattle.vl_engine_laws.specs.laws.HeldLaws.{held_opens_again}
+use Rattle.vl_engine_laws.specs.laws.InstallBeside.{base_beside, creating_leaves, creating_opens_again, lending_leaves}
+use Rattle.vl_engine_laws.specs.laws.InstallBeside.{lending_opens_again, lent_holds, tables_below}
+use Rattle.vl_engine_laws.specs.laws.KeptLaws.{AreOtherTables, nothing_elsewhere}
+use Rattle.vl_engine_model.specs.Decides.{Answered, Effects, Failed, as_before, no_effects}
+use Rattle.vl_engine_model.specs.Ruling.{Ruling, halted_at, has_no_number, leaving}
+use Rattle.vl_engine_model.specs.Rulings.Fresh as ruling
+use Rattle.vl_engine_model.specs.Rulings.Fresh.{Drawn, FreshAnswer, drawn, fresh_ruling, fresh_unless, lent_to}
+use Rattle.vl_engine_model.specs.Sources.{tables}
+use Rattle.vl_engine_model.specs.Tidy.{IsTidy}
+use Rattle.vl_engine_model.specs.declared.file_name.FileName.{FileName}
+use Rattle.vl_engine_model.specs.declared.job.OpenJob.{OpenJob}
+use Rattle.vl_engine_model.specs.declared.layout.Layout.{Layout}
+use Rattle.vl_engine_model_laws.specs.laws.TidySteps.{tidy_drawn}
 use Rattle.vl_manifest.specs.declared.state.ManifestState.{ManifestState}
 use Rattle.vl_model.specs.History.{History}
 use Rattle.vl_model.specs.Limits.{max_file_number}

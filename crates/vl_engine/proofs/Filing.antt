@@ -13,15 +13,15 @@ use Rattle.vl_disk.specs.declared.name.Name.TheVariants as names
 use Rattle.vl_disk.specs.declared.name.Name.{Name}
 use Rattle.vl_disk.specs.declared.watched.Watched.{Ghosts}
 use Rattle.vl_disk.specs.laws.NameMap.{same_or_other}
-use Rattle.vl_core.specs.laws.Carrying.{IsWatched}
-use Rattle.vl_core.specs.Carries.{HasSameFiles, SameFiles}
-use Rattle.vl_core.specs.Represents.{Fronts}
+use Rattle.vl_engine_laws.specs.laws.Carrying.{IsWatched}
+use Rattle.vl_engine_laws.specs.Carries.{HasSameFiles, SameFiles}
+use Rattle.vl_engine_laws.specs.Represents.{Fronts}
 use Rattle.vl_engine.specs.Staging.{next_frame}
 use Rattle.vl_engine.specs.Steps.{Hands, IsFailed, frame_of, log_of}
-use Rattle.vl_core.specs.Writing.{StopsWriting, WhileWriting, at_append, at_sync, written}
-use Rattle.vl_core.specs.declared.kept.Core.{Core}
-use Rattle.vl_layout.specs.Rulings.Commit.{commit_frame}
-use Rattle.vl_layout.specs.declared.layout.Layout.{Layout}
+use Rattle.vl_engine_laws.specs.Writing.{StopsWriting, WhileWriting, at_append, at_sync, written}
+use Rattle.vl_engine_laws.specs.declared.kept.Core.{Core}
+use Rattle.vl_engine_model.specs.Rulings.Commit.{commit_frame}
+use Rattle.vl_engine_model.specs.declared.layout.Layout.{Layout}
 use Rattle.vl_model.specs.Formats.{log_format}
 use Rattle.vl_model.specs.History.{History}
 use Rattle.vl_model.specs.Keys.{Writes}

@@ -14,12 +14,12 @@ use Rattle.vl_engine.proofs.RotateSteps.{CanRotate, ruled_made}
 use Rattle.vl_engine.proofs.Rotated.{ruled_refused}
 use Rattle.vl_engine.proofs.Stepped.{fits_back, fits_halted, fits_same, flushed_may, rotated_may, written_may}
 use Rattle.vl_engine.specs.Answers.{commit_effects, commit_outcome}
-use Rattle.vl_core.specs.Fit.{IsFitFor}
+use Rattle.vl_engine_laws.specs.Fit.{IsFitFor}
 use Rattle.vl_engine.specs.Flushing.{FlushesAs, flush_effects}
-use Rattle.vl_core.specs.Represents.{StandsFor, file_of}
+use Rattle.vl_engine_laws.specs.Represents.{StandsFor, file_of}
 use Rattle.vl_engine.specs.Rotating.{IsRefusedSo, RotatesAs, rotate_effects}
 use Rattle.vl_engine.specs.Stepping.{step_outcome}
-use Rattle.vl_core.specs.MayStep.{Fits}
+use Rattle.vl_engine_laws.specs.MayStep.{Fits}
 use Rattle.vl_engine.specs.Steps.{WritesAs}
 use Rattle.vl_engine.specs.declared.engine.Done.TheVariants as done
 use Rattle.vl_engine.specs.declared.engine.Done.{Done}
@@ -27,15 +27,15 @@ use Rattle.vl_engine.specs.declared.fails.CommitFail.TheVariants as commit_fails
 use Rattle.vl_engine.specs.declared.fails.CommitFail.{CommitFail}
 use Rattle.vl_engine.specs.declared.fails.StepFail.TheVariants as fails
 use Rattle.vl_engine.specs.declared.fails.StepFail.{StepFail}
-use Rattle.vl_core.specs.declared.kept.Core.{Core}
-use Rattle.vl_core.specs.laws.FlushRulings.{flush_made}
-use Rattle.vl_core.specs.laws.RotateRulings.{rotate_made}
-use Rattle.vl_layout.specs.Decides.{Answered, Decides, Otherwise, Outcome, as_before, effects_of, no_effects}
-use Rattle.vl_layout.specs.Ruling.{Ruling, StepAnswer, Stepped, ended}
-use Rattle.vl_layout.specs.Rulings.Commit.{At, CommitAnswer, Transaction, commit_lost, commit_ruling, committed}
-use Rattle.vl_layout.specs.Rulings.Flush.{flush_ruling}
-use Rattle.vl_layout.specs.Rulings.Rotate.{rotate_ruling}
-use Rattle.vl_layout.specs.declared.layout.Layout.{Layout}
+use Rattle.vl_engine_laws.specs.declared.kept.Core.{Core}
+use Rattle.vl_engine_laws.specs.laws.FlushRulings.{flush_made}
+use Rattle.vl_engine_laws.specs.laws.RotateRulings.{rotate_made}
+use Rattle.vl_engine_model.specs.Decides.{Answered, Decides, Otherwise, Outcome, as_before, effects_of, no_effects}
+use Rattle.vl_engine_model.specs.Ruling.{Ruling, StepAnswer, Stepped, ended}
+use Rattle.vl_engine_model.specs.Rulings.Commit.{At, CommitAnswer, Transaction, commit_lost, commit_ruling, committed}
+use Rattle.vl_engine_model.specs.Rulings.Flush.{flush_ruling}
+use Rattle.vl_engine_model.specs.Rulings.Rotate.{rotate_ruling}
+use Rattle.vl_engine_model.specs.declared.layout.Layout.{Layout}
 use Rattle.vl_model.specs.History.{History}
 use Rattle.vl_model.specs.Keys.{Writes}
 use Rattle.vl_model.specs.Reads.{Read}

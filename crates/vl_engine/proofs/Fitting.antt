@@ -9,10 +9,10 @@ use Rattle.vl_disk.specs.DiskState.{DiskState, File}
 use Rattle.vl_disk.specs.declared.name.Name.TheVariants as names
 use Rattle.vl_disk.specs.declared.name.Name.{Name}
 use Rattle.vl_engine.proofs.Filing.{files_written}
-use Rattle.vl_core.specs.Carries.{HasSameFiles}
-use Rattle.vl_core.specs.Fit.{IsFitFor, IsFitForSteps}
-use Rattle.vl_core.specs.Writing.{written}
-use Rattle.vl_core.specs.declared.kept.Core.{Core}
+use Rattle.vl_engine_laws.specs.Carries.{HasSameFiles}
+use Rattle.vl_engine_laws.specs.Fit.{IsFitFor, IsFitForSteps}
+use Rattle.vl_engine_laws.specs.Writing.{written}
+use Rattle.vl_engine_laws.specs.declared.kept.Core.{Core}
 
 -- ---- where the same files stand
 

@@ -10,18 +10,18 @@ use Rattle.vl_back.specs.declared.stage_fail.StageFail.{StageFail}
 use Rattle.vl_disk.specs.DiskState.{DiskState}
 use Rattle.vl_engine.proofs.FlushSteps.{numbers_held}
 use Rattle.vl_engine.proofs.Flushed.{runs_on}
-use Rattle.vl_core.specs.Laid.{IsMemtableOf}
-use Rattle.vl_core.specs.Represents.{IsHeld, Represents}
-use Rattle.vl_core.specs.declared.kept.Core.{Core}
-use Rattle.vl_core.specs.laws.FlushApplies.{flush_applies, flush_spells}
-use Rattle.vl_core.specs.laws.FlushLaws.{edits_of, flush_either}
-use Rattle.vl_core.specs.laws.FlushRulings.{flush_waits}
-use Rattle.vl_core.specs.laws.LaidFlush.{oldest_entries}
-use Rattle.vl_core.specs.laws.WaitingLaws.{waiting_edits}
-use Rattle.vl_layout.specs.Rulings.Flush.{flushed}
-use Rattle.vl_layout.specs.Sources.{head, oldest}
-use Rattle.vl_layout.specs.declared.layout.Layout.{Layout}
-use Rattle.vl_layout.specs.declared.segment.Segment.{Segment}
+use Rattle.vl_engine_laws.specs.Laid.{IsMemtableOf}
+use Rattle.vl_engine_laws.specs.Represents.{IsHeld, Represents}
+use Rattle.vl_engine_laws.specs.declared.kept.Core.{Core}
+use Rattle.vl_engine_laws.specs.laws.FlushApplies.{flush_applies, flush_spells}
+use Rattle.vl_engine_laws.specs.laws.FlushLaws.{edits_of, flush_either}
+use Rattle.vl_engine_laws.specs.laws.FlushRulings.{flush_waits}
+use Rattle.vl_engine_laws.specs.laws.LaidFlush.{oldest_entries}
+use Rattle.vl_engine_laws.specs.laws.WaitingLaws.{waiting_edits}
+use Rattle.vl_engine_model.specs.Rulings.Flush.{flushed}
+use Rattle.vl_engine_model.specs.Sources.{head, oldest}
+use Rattle.vl_engine_model.specs.declared.layout.Layout.{Layout}
+use Rattle.vl_engine_model.specs.declared.segment.Segment.{Segment}
 use Rattle.vl_manifest.specs.States.{next_state}
 use Rattle.vl_manifest.specs.declared.edit.Edit.{Edit}
 use Rattle.vl_manifest.specs.declared.state.ManifestState.{ManifestState}

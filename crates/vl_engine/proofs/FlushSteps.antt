@@ -8,7 +8,7 @@ use Rattle.vl_back.specs.Tables as staged
 use Rattle.vl_back.specs.Writing.{WhileWriting, written}
 use Rattle.vl_back.specs.declared.back.Back.{Back}
 use Rattle.vl_back.specs.declared.staging.StagedFlush.{StagedFlush}
-use Rattle.vl_block.specs.Bytes.{IsTable}
+use Rattle.vl_table.specs.body.Bytes.{IsTable}
 use Rattle.vl_disk.specs.Disk.{IsChangedBy}
 use Rattle.vl_disk.specs.Crash.{Image}
 use Rattle.vl_disk.specs.DiskState.{DiskState}
@@ -19,48 +19,48 @@ use Rattle.vl_disk.specs.Name.{IsNumbered}
 use Rattle.vl_disk.specs.declared.name.Name.TheVariants as names
 use Rattle.vl_disk.specs.declared.name.Name.{Name}
 use Rattle.vl_disk.specs.declared.watched.Watched.{Ghosts}
-use Rattle.vl_core.specs.laws.Carrying.{IsWatched, looked}
+use Rattle.vl_engine_laws.specs.laws.Carrying.{IsWatched, looked}
 use Rattle.vl_engine.proofs.Committing.{decides_answered, decides_failed}
-use Rattle.vl_core.specs.laws.FlushKeeps.{KeepsAsMany}
+use Rattle.vl_engine_laws.specs.laws.FlushKeeps.{KeepsAsMany}
 use Rattle.vl_engine.proofs.Leaving.{base_numbers, either_state, first_drawn, making_elsewhere, manifest_held}
-use Rattle.vl_core.specs.laws.Represented.{represents_halted}
-use Rattle.vl_core.specs.laws.Standing.{stands_halted}
-use Rattle.vl_core.specs.Carries.{Carries, CrashesShow}
-use Rattle.vl_core.specs.Files.{IsLogFile}
-use Rattle.vl_core.specs.FlushFacts.{IsNextBack, IsNextVersion, IsStagedOf, IsTableHeld, WhileFlushed, WritesFlush, flush_written}
-use Rattle.vl_core.specs.Held.{Base}
-use Rattle.vl_core.specs.Pointed.{layout_logs}
-use Rattle.vl_core.specs.Represents.{Fronts, IsBack, IsFront, IsHeld, Represents, StandsFor, file_of}
-use Rattle.vl_core.specs.Shown.{LeavesBetween}
-use Rattle.vl_core.specs.MayStep.{AreLogFiles, HasNumbers, LeavesNumbers}
-use Rattle.vl_core.specs.declared.kept.Core.{Core}
-use Rattle.vl_core.specs.laws.FlushBase.{before_then}
-use Rattle.vl_core.specs.laws.FlushLaws.{CanFlush, WhileFlushing, base_beside, base_mid, base_then, bytes_of}
-use Rattle.vl_core.specs.laws.FlushLaws.{edits_of, files_mid, files_then, final, flush_either, flush_holds}
-use Rattle.vl_core.specs.laws.FlushLaws.{flush_leaves, later, memtables, mid, state_is, tidy_then}
-use Rattle.vl_core.specs.laws.FlushRulings.{flush_made}
-use Rattle.vl_core.specs.laws.FlushTidy.{flush_tidy, stays}
-use Rattle.vl_core.specs.laws.HeldLaws.{held_opens_again}
-use Rattle.vl_core.specs.laws.KeptLaws.{none_drawn}
-use Rattle.vl_core.specs.laws.LaidFlush.{laid_flushed, made_table, oldest_entries}
-use Rattle.vl_core.specs.laws.OpensAgain.{flush_opens_again}
-use Rattle.vl_core.specs.laws.ShownLaws.{between_itself}
-use Rattle.vl_core.specs.laws.SparedSteps.{spares_flushed}
-use Rattle.vl_core.specs.laws.SwitchLaws.{switch_frame, switching_says}
-use Rattle.vl_core.specs.laws.WaitingLaws.{waiting_dropped, waiting_edits}
+use Rattle.vl_engine_laws.specs.laws.Represented.{represents_halted}
+use Rattle.vl_engine_laws.specs.laws.Standing.{stands_halted}
+use Rattle.vl_engine_laws.specs.Carries.{Carries, CrashesShow}
+use Rattle.vl_engine_laws.specs.Files.{IsLogFile}
+use Rattle.vl_engine_laws.specs.FlushFacts.{IsNextBack, IsNextVersion, IsStagedOf, IsTableHeld, WhileFlushed, WritesFlush, flush_written}
+use Rattle.vl_engine_laws.specs.Held.{Base}
+use Rattle.vl_engine_laws.specs.Pointed.{layout_logs}
+use Rattle.vl_engine_laws.specs.Represents.{Fronts, IsBack, IsFront, IsHeld, Represents, StandsFor, file_of}
+use Rattle.vl_engine_laws.specs.Shown.{LeavesBetween}
+use Rattle.vl_engine_laws.specs.MayStep.{AreLogFiles, HasNumbers, LeavesNumbers}
+use Rattle.vl_engine_laws.specs.declared.kept.Core.{Core}
+use Rattle.vl_engine_laws.specs.laws.FlushBase.{before_then}
+use Rattle.vl_engine_laws.specs.laws.FlushLaws.{CanFlush, WhileFlushing, base_beside, base_mid, base_then, bytes_of}
+use Rattle.vl_engine_laws.specs.laws.FlushLaws.{edits_of, files_mid, files_then, final, flush_either, flush_holds}
+use Rattle.vl_engine_laws.specs.laws.FlushLaws.{flush_leaves, later, memtables, mid, state_is, tidy_then}
+use Rattle.vl_engine_laws.specs.laws.FlushRulings.{flush_made}
+use Rattle.vl_engine_laws.specs.laws.FlushTidy.{flush_tidy, stays}
+use Rattle.vl_engine_laws.specs.laws.HeldLaws.{held_opens_again}
+use Rattle.vl_engine_laws.specs.laws.KeptLaws.{none_drawn}
+use Rattle.vl_engine_laws.specs.laws.LaidFlush.{laid_flushed, made_table, oldest_entries}
+use Rattle.vl_engine_laws.specs.laws.OpensAgain.{flush_opens_again}
+use Rattle.vl_engine_laws.specs.laws.ShownLaws.{between_itself}
+use Rattle.vl_engine_laws.specs.laws.SparedSteps.{spares_flushed}
+use Rattle.vl_engine_laws.specs.laws.SwitchLaws.{switch_frame, switching_says}
+use Rattle.vl_engine_laws.specs.laws.WaitingLaws.{waiting_dropped, waiting_edits}
 use Rattle.vl_frame.specs.Runs.{HasFrame, item_frame}
 use Rattle.vl_front.specs.declared.front.Front.{Front}
-use Rattle.vl_layout.specs.Decides.{Answered, Effects, Failed, as_before}
-use Rattle.vl_layout.specs.Logs.{memtable}
-use Rattle.vl_layout.specs.Ruling.{Stepped, halted_at}
-use Rattle.vl_layout.specs.Rulings.Flush.{flushed}
-use Rattle.vl_layout.specs.Sources.{head, oldest}
-use Rattle.vl_layout.specs.Start.{newest_first}
-use Rattle.vl_layout.specs.Tidy.{IsTidy}
-use Rattle.vl_layout.specs.TidyLevels.{AreLevels}
-use Rattle.vl_layout.specs.declared.layout.Layout.{Layout}
-use Rattle.vl_layout.specs.declared.segment.Segment.{Segment}
-use Rattle.vl_layout.specs.declared.table.Table as laid
+use Rattle.vl_engine_model.specs.Decides.{Answered, Effects, Failed, as_before}
+use Rattle.vl_engine_model.specs.Logs.{memtable}
+use Rattle.vl_engine_model.specs.Ruling.{Stepped, halted_at}
+use Rattle.vl_engine_model.specs.Rulings.Flush.{flushed}
+use Rattle.vl_engine_model.specs.Sources.{head, oldest}
+use Rattle.vl_engine_model.specs.Start.{newest_first}
+use Rattle.vl_engine_model.specs.Tidy.{IsTidy}
+use Rattle.vl_engine_model.specs.TidyLevels.{AreLevels}
+use Rattle.vl_engine_model.specs.declared.layout.Layout.{Layout}
+use Rattle.vl_engine_model.specs.declared.segment.Segment.{Segment}
+use Rattle.vl_engine_model.specs.declared.table.Table as laid
 use Rattle.vl_manifest.specs.Grammar.{edits_grammar}
 use Rattle.vl_manifest.specs.States.{next_state}
 use Rattle.vl_manifest.specs.Switching.{WhileSwitching}

@@ -12,29 +12,29 @@ use Rattle.vl_disk.specs.DiskState.{DiskState}
 use Rattle.vl_disk.specs.Faults.{after_calls}
 use Rattle.vl_disk.specs.declared.name.Name.{Name}
 use Rattle.vl_disk.specs.declared.watched.Watched.{Ghosts}
-use Rattle.vl_core.specs.laws.Carrying.{IsWatched, carries_leaving, carries_no_memory, extends_itself}
+use Rattle.vl_engine_laws.specs.laws.Carrying.{IsWatched, carries_leaving, carries_no_memory, extends_itself}
 use Rattle.vl_engine.proofs.Committing.{decides_answered, decides_failed, decides_short}
-use Rattle.vl_core.specs.laws.FlushKeeps.{KeepsAsMany, as_many, kept_flushed}
+use Rattle.vl_engine_laws.specs.laws.FlushKeeps.{KeepsAsMany, as_many, kept_flushed}
 use Rattle.vl_engine.proofs.FlushSteps.{carries_flushed, carries_unflushed, files_held, fronts_flushed}
 use Rattle.vl_engine.proofs.FlushSteps.{fronts_unflushed, numbers_held, stands_flushed, stands_unflushed}
-use Rattle.vl_core.specs.Carries.{Carries}
+use Rattle.vl_engine_laws.specs.Carries.{Carries}
 use Rattle.vl_engine.specs.Flushing.{FlushesAs}
-use Rattle.vl_core.specs.FlushFacts.{IsFlushWritten, IsStagedOf, IsTableMade, StopsFlushing, WritesFlush}
+use Rattle.vl_engine_laws.specs.FlushFacts.{IsFlushWritten, IsStagedOf, IsTableMade, StopsFlushing, WritesFlush}
 use Rattle.vl_engine.specs.Flushing.{flush_effects}
-use Rattle.vl_core.specs.FlushFacts.{flush_written}
-use Rattle.vl_core.specs.Represents.{Fronts, Represents, StandsFor, file_of}
+use Rattle.vl_engine_laws.specs.FlushFacts.{flush_written}
+use Rattle.vl_engine_laws.specs.Represents.{Fronts, Represents, StandsFor, file_of}
 use Rattle.vl_engine.specs.Stepping.{StepFailed, StepLeavesDisk, step_outcome}
-use Rattle.vl_core.specs.MayStep.{AreLogFiles, HasNumbers}
+use Rattle.vl_engine_laws.specs.MayStep.{AreLogFiles, HasNumbers}
 use Rattle.vl_engine.specs.declared.fails.StepFail.TheVariants as fails
 use Rattle.vl_engine.specs.declared.fails.StepFail.{StepFail}
-use Rattle.vl_core.specs.declared.kept.Core.{Core}
-use Rattle.vl_core.specs.laws.FlushRulings.{flush_halted, flush_made, flush_made_so, flush_ruled, flush_ruled_so, flush_waits}
-use Rattle.vl_layout.specs.Decides.{Answered, Decides, Failed, NoMemory, as_before, no_effects}
-use Rattle.vl_layout.specs.Ruling.{Exhausted, Halted, Idle, Ruling, StepAnswer, Stepped, leaving}
-use Rattle.vl_layout.specs.Rulings.Flush.{flush_ruling}
-use Rattle.vl_layout.specs.Sources.{oldest}
-use Rattle.vl_layout.specs.declared.layout.Layout.{Layout}
-use Rattle.vl_layout.specs.declared.segment.Segment.{Segment}
+use Rattle.vl_engine_laws.specs.declared.kept.Core.{Core}
+use Rattle.vl_engine_laws.specs.laws.FlushRulings.{flush_halted, flush_made, flush_made_so, flush_ruled, flush_ruled_so, flush_waits}
+use Rattle.vl_engine_model.specs.Decides.{Answered, Decides, Failed, NoMemory, as_before, no_effects}
+use Rattle.vl_engine_model.specs.Ruling.{Exhausted, Halted, Idle, Ruling, StepAnswer, Stepped, leaving}
+use Rattle.vl_engine_model.specs.Rulings.Flush.{flush_ruling}
+use Rattle.vl_engine_model.specs.Sources.{oldest}
+use Rattle.vl_engine_model.specs.declared.layout.Layout.{Layout}
+use Rattle.vl_engine_model.specs.declared.segment.Segment.{Segment}
 use Rattle.vl_model.specs.History.{Extends, History}
 use Rattle.vl_model.specs.declared.counter.Counter.{Counter}
 

@@ -3,7 +3,7 @@ use Rattle.std.specs.Prelude.{◌≡◌, ◌<◌, ◌≤◌, ◌+◌, ℕ, Bool,
 use Rattle.std.specs.List.{filter}
 use Rattle.std.proofs.Common.{sym, ap, ◌∙◌, append_assoc, get_or, take}
 use Rattle.std.proofs.lemmas.List.{take_all, take_more}
-use Rattle.vl_block.specs.declared.points.Point.{Point}
+use Rattle.vl_model.specs.declared.point.Point.{Point}
 use Rattle.vl_engine.specs.Collecting.{points_in}
 use Rattle.vl_table.specs.declared.table.Table.{Table}
 use Rattle.vl_version.specs.levels.LevelTables.{all_tables}

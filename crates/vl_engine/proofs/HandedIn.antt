@@ -17,7 +17,7 @@ use Rattle.vl_engine.specs.Installing.{IsHandedIn}
 use Rattle.vl_engine.specs.Lent.{AreLent, IsLent}
 use Rattle.vl_engine.specs.Taking.{MayTake, MayTakeAll}
 use Rattle.vl_engine.specs.declared.open.OpenMerge.{OpenMerge}
-use Rattle.vl_layout.specs.Jobs.{AreDistinct}
+use Rattle.vl_engine_model.specs.Jobs.{AreDistinct}
 use Rattle.vl_model.specs.Numbers.{has}
 
 -- what is so of all of some numbers is so of one of them

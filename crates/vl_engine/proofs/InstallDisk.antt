@@ -23,48 +23,48 @@ use Rattle.vl_disk.specs.declared.name.Name.{Name}
 use Rattle.vl_disk.specs.declared.watched.Watched.{Ghosts}
 use Rattle.vl_disk.specs.declared.writer.Writer.{Ghosts as Writers}
 use Rattle.vl_disk.specs.laws.NameMap.{get_inserted_other}
-use Rattle.vl_core.specs.laws.Carrying.{IsWatched}
+use Rattle.vl_engine_laws.specs.laws.Carrying.{IsWatched}
 use Rattle.vl_engine.proofs.Committing.{decides_answered, decides_failed}
 use Rattle.vl_engine.proofs.FlushSteps.{same_log}
-use Rattle.vl_core.specs.laws.InstallDiskEdits.{install_next}
+use Rattle.vl_engine_laws.specs.laws.InstallDiskEdits.{install_next}
 use Rattle.vl_engine.proofs.InstallDiskStaged.{apart, b, can, frame_is, held, holds_made, state_is, with_made}
 use Rattle.vl_engine.proofs.InstallDiskTables.{tables_front, zip_front}
 use Rattle.vl_engine.proofs.InstallDiskTaken.{goes_taken, opens_taken, taken, told_taken}
-use Rattle.vl_core.specs.laws.Represented.{represents_halted}
+use Rattle.vl_engine_laws.specs.laws.Represented.{represents_halted}
 use Rattle.vl_engine.proofs.Stepped.{fits_halted}
 use Rattle.vl_engine.proofs.TakenFiles.{AreTold, tables_of}
-use Rattle.vl_core.specs.Carries.{Carries, CrashesShow}
-use Rattle.vl_core.specs.Files.{HoldsLog, IsLogFile}
-use Rattle.vl_core.specs.Held.{Base, Holds}
+use Rattle.vl_engine_laws.specs.Carries.{Carries, CrashesShow}
+use Rattle.vl_engine_laws.specs.Files.{HoldsLog, IsLogFile}
+use Rattle.vl_engine_laws.specs.Held.{Base, Holds}
 use Rattle.vl_engine.specs.Installing.{IsBackInstalled, IsHandedIn, IsInstalled, IsReadyFor, IsUninstalled}
 use Rattle.vl_engine.specs.Installing.{StopsSwitching, install_otherwise}
 use Rattle.vl_engine.specs.Merging.{HasAllMerge}
-use Rattle.vl_core.specs.Represents.{IsHeld, Represents, StandsFor, file_of}
-use Rattle.vl_core.specs.Shown.{LeavesBetween}
-use Rattle.vl_core.specs.MayStep.{AreLogFiles, Fits, MayStep}
+use Rattle.vl_engine_laws.specs.Represents.{IsHeld, Represents, StandsFor, file_of}
+use Rattle.vl_engine_laws.specs.Shown.{LeavesBetween}
+use Rattle.vl_engine_laws.specs.MayStep.{AreLogFiles, Fits, MayStep}
 use Rattle.vl_engine.specs.Taking.{StopsTaking, Takes, TakesBack, file_of_table, with_files}
 use Rattle.vl_engine.specs.declared.installing.ReadyInstall.{ReadyInstall}
-use Rattle.vl_core.specs.declared.kept.Core.{Core}
+use Rattle.vl_engine_laws.specs.declared.kept.Core.{Core}
 use Rattle.vl_engine.specs.declared.open.OpenMerge.{OpenMerge}
-use Rattle.vl_core.specs.laws.FileLaws.{all_each, all_front}
-use Rattle.vl_core.specs.laws.HeldLaws.{held_opens_again, sources_held}
+use Rattle.vl_engine_laws.specs.laws.FileLaws.{all_each, all_front}
+use Rattle.vl_engine_laws.specs.laws.HeldLaws.{held_opens_again, sources_held}
 use Rattle.vl_engine.specs.laws.InstallApplies.{edits_of}
 use Rattle.vl_engine.specs.laws.InstallBase.{base_then, later}
 use Rattle.vl_engine.specs.laws.InstallLaws.{final, install_holds, install_leaves, install_opens_again}
-use Rattle.vl_core.specs.laws.InstallRulings.{GoesOn, install_made, install_made_so}
-use Rattle.vl_core.specs.laws.InstallTaken.{IsApart}
-use Rattle.vl_core.specs.laws.KeptLaws.{log_manifest, log_table, none_drawn, written_elsewhere}
-use Rattle.vl_core.specs.laws.SwitchLaws.{switch_frame}
-use Rattle.vl_layout.specs.Decides.{Answered, Decides, Failed as Fails, no_effects}
-use Rattle.vl_layout.specs.Jobs.{AreLent, job_ended}
-use Rattle.vl_layout.specs.Merging.{outputs}
-use Rattle.vl_layout.specs.Ruling.{Ruling, halted_at}
-use Rattle.vl_layout.specs.Rulings.Install.{InstallAnswer, Installed, install_ruling, installed}
-use Rattle.vl_layout.specs.Sources.{tables}
-use Rattle.vl_layout.specs.Start.{newest_first}
-use Rattle.vl_layout.specs.declared.job.OpenJob.{OpenJob}
-use Rattle.vl_layout.specs.declared.layout.Layout.{Layout}
-use Rattle.vl_layout.specs.declared.segment.Segment.{Segment}
+use Rattle.vl_engine_laws.specs.laws.InstallRulings.{GoesOn, install_made, install_made_so}
+use Rattle.vl_engine_laws.specs.laws.InstallTaken.{IsApart}
+use Rattle.vl_engine_laws.specs.laws.KeptLaws.{log_manifest, log_table, none_drawn, written_elsewhere}
+use Rattle.vl_engine_laws.specs.laws.SwitchLaws.{switch_frame}
+use Rattle.vl_engine_model.specs.Decides.{Answered, Decides, Failed as Fails, no_effects}
+use Rattle.vl_engine_model.specs.Jobs.{AreLent, job_ended}
+use Rattle.vl_engine_model.specs.Merging.{outputs}
+use Rattle.vl_engine_model.specs.Ruling.{Ruling, halted_at}
+use Rattle.vl_engine_model.specs.Rulings.Install.{InstallAnswer, Installed, install_ruling, installed}
+use Rattle.vl_engine_model.specs.Sources.{tables}
+use Rattle.vl_engine_model.specs.Start.{newest_first}
+use Rattle.vl_engine_model.specs.declared.job.OpenJob.{OpenJob}
+use Rattle.vl_engine_model.specs.declared.layout.Layout.{Layout}
+use Rattle.vl_engine_model.specs.declared.segment.Segment.{Segment}
 use Rattle.vl_manifest.specs.Switching.{Switches, WhileSwitching, switched}
 use Rattle.vl_manifest.specs.declared.manifest_log.ManifestLog.{ManifestLog}
 use Rattle.vl_manifest.specs.declared.state.ManifestState.{ManifestState}

@@ -20,21 +20,21 @@ use Rattle.vl_disk.specs.declared.name.Name.{Name}
 use Rattle.vl_disk.specs.declared.watched.Watched.{Ghosts}
 use Rattle.vl_disk.specs.declared.writer.Writer.{Ghosts as Writers}
 use Rattle.vl_disk.specs.laws.NameMap.{get_inserted_other, get_removed_other}
-use Rattle.vl_core.specs.laws.Carrying.{IsWatched}
-use Rattle.vl_core.specs.laws.InstallDiskEdits.{install_any_next, install_gives, install_head}
+use Rattle.vl_engine_laws.specs.laws.Carrying.{IsWatched}
+use Rattle.vl_engine_laws.specs.laws.InstallDiskEdits.{install_any_next, install_gives, install_head}
 use Rattle.vl_engine.proofs.Leaving.{base_numbers, either_state, manifest_held}
-use Rattle.vl_core.specs.Held.{Base, HoldsBase, frames_of}
+use Rattle.vl_engine_laws.specs.Held.{Base, HoldsBase, frames_of}
 use Rattle.vl_engine.specs.Installing.{IsReadyFor, StopsInstalling, StopsSwitching}
-use Rattle.vl_core.specs.Represents.{IsHeld, Represents, file_of}
-use Rattle.vl_core.specs.MayStep.{LeavesNumbers}
+use Rattle.vl_engine_laws.specs.Represents.{IsHeld, Represents, file_of}
+use Rattle.vl_engine_laws.specs.MayStep.{LeavesNumbers}
 use Rattle.vl_engine.specs.Taking.{StopsTaking, file_of_table, with_files}
 use Rattle.vl_engine.specs.declared.installing.ReadyInstall.{ReadyInstall}
-use Rattle.vl_core.specs.declared.kept.Core.{Core}
-use Rattle.vl_core.specs.laws.FlushBase.{state_more}
-use Rattle.vl_core.specs.laws.KeptLaws.{base_kept, manifests_beside_table}
-use Rattle.vl_core.specs.laws.SwitchLaws.{above_kept, switch_frame, switching_elsewhere}
+use Rattle.vl_engine_laws.specs.declared.kept.Core.{Core}
+use Rattle.vl_engine_laws.specs.laws.FlushBase.{state_more}
+use Rattle.vl_engine_laws.specs.laws.KeptLaws.{base_kept, manifests_beside_table}
+use Rattle.vl_engine_laws.specs.laws.SwitchLaws.{above_kept, switch_frame, switching_elsewhere}
 use Rattle.vl_frame.specs.Runs.{HasFrame, item_frame}
-use Rattle.vl_layout.specs.declared.layout.Layout.{Layout}
+use Rattle.vl_engine_model.specs.declared.layout.Layout.{Layout}
 use Rattle.vl_manifest.specs.Current.{IsCurrent, StandsReadable}
 use Rattle.vl_manifest.specs.Grammar.{edits_grammar}
 use Rattle.vl_manifest.specs.Manifest.{ReadsManifest, SaysState, state_of}

@@ -11,34 +11,34 @@ use Rattle.vl_compact.specs.declared.files.Synced.{Synced}
 use Rattle.vl_compact.specs.declared.job.Job.{Job}
 use Rattle.vl_disk.specs.DiskState.{DiskState}
 use Rattle.vl_disk.specs.declared.writer.Writer.{Ghosts as Writers}
-use Rattle.vl_core.specs.laws.InstallDiskEdits.{edits_fit, next_fits}
+use Rattle.vl_engine_laws.specs.laws.InstallDiskEdits.{edits_fit, next_fits}
 use Rattle.vl_engine.proofs.InstallDiskTables.{apart_each, apart_from, first_is, made_files, made_many, made_numbers_are, numbers_held}
-use Rattle.vl_core.specs.Held.{Base, Holds}
+use Rattle.vl_engine_laws.specs.Held.{Base, Holds}
 use Rattle.vl_engine.specs.Installing.{IsReadyFor, first_made}
 use Rattle.vl_engine.specs.Merging.{HasAllMerge}
-use Rattle.vl_core.specs.Pointed.{layout_logs}
-use Rattle.vl_core.specs.Represents.{IsHeld, Represents}
+use Rattle.vl_engine_laws.specs.Pointed.{layout_logs}
+use Rattle.vl_engine_laws.specs.Represents.{IsHeld, Represents}
 use Rattle.vl_engine.specs.declared.installing.ReadyInstall.{ReadyInstall}
-use Rattle.vl_core.specs.declared.kept.Core.{Core}
+use Rattle.vl_engine_laws.specs.declared.kept.Core.{Core}
 use Rattle.vl_engine.specs.laws.InstallApplies.{edits_of, gone_most, install_staged, replacing, state}
 use Rattle.vl_engine.specs.laws.InstallBase.{CanInstall}
 use Rattle.vl_engine.specs.laws.InstallPlaces.{place}
-use Rattle.vl_core.specs.laws.InstallRulings.{GoesOn}
-use Rattle.vl_core.specs.laws.InstallTaken.{AreApart, IsApart, taken_holds, taken_stand, with_tables}
+use Rattle.vl_engine_laws.specs.laws.InstallRulings.{GoesOn}
+use Rattle.vl_engine_laws.specs.laws.InstallTaken.{AreApart, IsApart, taken_holds, taken_stand, with_tables}
 use Rattle.vl_engine.specs.laws.PlannedJobs.{levels_are}
-use Rattle.vl_core.specs.laws.SwitchLaws.{switch_frame}
+use Rattle.vl_engine_laws.specs.laws.SwitchLaws.{switch_frame}
 use Rattle.vl_frame.specs.Runs.{HasFrame, item_frame}
-use Rattle.vl_layout.specs.Jobs.{AreLent, AreOutputs, Made}
-use Rattle.vl_layout.specs.Merging.{gone_after, needless, outputs}
-use Rattle.vl_layout.specs.OpenJobs.{IsFitted, IsOpenWell, IsRoomy}
-use Rattle.vl_layout.specs.Sources.{numbers_of, tables}
-use Rattle.vl_layout.specs.Tidy.{IsTidy}
-use Rattle.vl_layout.specs.declared.job.Job as laid_job
-use Rattle.vl_layout.specs.declared.job.OpenJob.{OpenJob}
-use Rattle.vl_layout.specs.declared.job.Target.TheVariants.{InPlace, Level}
-use Rattle.vl_layout.specs.declared.job.Target.{Target}
-use Rattle.vl_layout.specs.declared.layout.Layout.{Layout}
-use Rattle.vl_layout_laws.specs.laws.InstallTidy.{distinct_made, other_made}
+use Rattle.vl_engine_model.specs.Jobs.{AreLent, AreOutputs, Made}
+use Rattle.vl_engine_model.specs.Merging.{gone_after, needless, outputs}
+use Rattle.vl_engine_model.specs.OpenJobs.{IsFitted, IsOpenWell, IsRoomy}
+use Rattle.vl_engine_model.specs.Sources.{numbers_of, tables}
+use Rattle.vl_engine_model.specs.Tidy.{IsTidy}
+use Rattle.vl_engine_model.specs.declared.job.Job as laid_job
+use Rattle.vl_engine_model.specs.declared.job.OpenJob.{OpenJob}
+use Rattle.vl_engine_model.specs.declared.job.Target.TheVariants.{InPlace, Level}
+use Rattle.vl_engine_model.specs.declared.job.Target.{Target}
+use Rattle.vl_engine_model.specs.declared.layout.Layout.{Layout}
+use Rattle.vl_engine_model_laws.specs.laws.InstallTidy.{distinct_made, other_made}
 use Rattle.vl_manifest.specs.Grammar.{edits_grammar}
 use Rattle.vl_manifest.specs.States.{are_next, is_file_number, next_state}
 use Rattle.vl_manifest.specs.declared.edit.Edit.{Edit}

@@ -4,8 +4,8 @@ use Rattle.std.specs.Prelude.{◌≡◌, ◌≢◌, ℕ, true, nat_le, List, [],
 use Rattle.std.specs.List.{AllByRecursion, AllZip}
 use Rattle.std.proofs.Common.{sym, ap, subst, ◌∙◌, arith}
 use Rattle.std.proofs.lemmas.Bool.{and_parts, leb-true}
-use Rattle.vl_block.specs.Bytes.{IsTable}
-use Rattle.vl_block.specs.Footer.{Foot}
+use Rattle.vl_table.specs.body.Bytes.{IsTable}
+use Rattle.vl_table.specs.body.Footer.{Foot}
 use Rattle.vl_compact.specs.Laid as compact
 use Rattle.vl_compact.specs.Places.{first_key}
 use Rattle.vl_compact.specs.Progress.{IsTableFile}
@@ -13,15 +13,15 @@ use Rattle.vl_compact.specs.declared.files.Synced.{Synced}
 use Rattle.vl_disk.specs.declared.name.Name.TheVariants as names
 use Rattle.vl_disk.specs.declared.writer.Writer.{Ghosts as Writers}
 use Rattle.vl_engine.proofs.TakenFiles.{tables_of}
-use Rattle.vl_core.specs.Files as files
+use Rattle.vl_engine_laws.specs.Files as files
 use Rattle.vl_engine.specs.Installing.{first_made}
-use Rattle.vl_core.specs.laws.InstallTaken.{AreApart, IsApart}
-use Rattle.vl_core.specs.laws.KeptLaws.{AreOtherTables, table_same}
-use Rattle.vl_layout.specs.Sources.{numbers_of}
-use Rattle.vl_layout.specs.Tables.{new_table}
-use Rattle.vl_layout.specs.TidyLevels.{IsDistinct}
-use Rattle.vl_layout.specs.declared.table.Table as laid
-use Rattle.vl_layout_laws.specs.laws.Pairs.{AreOther}
+use Rattle.vl_engine_laws.specs.laws.InstallTaken.{AreApart, IsApart}
+use Rattle.vl_engine_laws.specs.laws.KeptLaws.{AreOtherTables, table_same}
+use Rattle.vl_engine_model.specs.Sources.{numbers_of}
+use Rattle.vl_engine_model.specs.Tables.{new_table}
+use Rattle.vl_engine_model.specs.TidyLevels.{IsDistinct}
+use Rattle.vl_engine_model.specs.declared.table.Table as laid
+use Rattle.vl_engine_model_laws.specs.laws.Pairs.{AreOther}
 use Rattle.vl_manifest.specs.States.{is_file_number}
 use Rattle.vl_model.specs.Formats.{table_format}
 use Rattle.vl_model.specs.Limits.{max_file_number}

@@ -11,19 +11,19 @@ use Rattle.vl_disk.specs.DiskState.{DiskState}
 use Rattle.vl_disk.specs.Moments.{goes_by}
 use Rattle.vl_disk.specs.declared.watched.Watched.{Ghosts}
 use Rattle.vl_disk.specs.declared.writer.Writer.{Ghosts as Writers}
-use Rattle.vl_core.specs.laws.Carrying.{IsWatched, looked}
+use Rattle.vl_engine_laws.specs.laws.Carrying.{IsWatched, looked}
 use Rattle.vl_engine.proofs.TakenFiles.{AreTold, files_laid, tables_of, while_laid}
-use Rattle.vl_core.specs.Carries.{CrashesShow}
-use Rattle.vl_core.specs.Held.{Holds}
-use Rattle.vl_core.specs.Pointed.{layout_logs}
-use Rattle.vl_core.specs.Represents.{IsHeld}
-use Rattle.vl_core.specs.Shown.{LeavesBetween}
+use Rattle.vl_engine_laws.specs.Carries.{CrashesShow}
+use Rattle.vl_engine_laws.specs.Held.{Holds}
+use Rattle.vl_engine_laws.specs.Pointed.{layout_logs}
+use Rattle.vl_engine_laws.specs.Represents.{IsHeld}
+use Rattle.vl_engine_laws.specs.Shown.{LeavesBetween}
 use Rattle.vl_engine.specs.Taking.{Takes, WhileTaking, with_files}
-use Rattle.vl_core.specs.laws.HeldLaws.{held_opens_again}
-use Rattle.vl_core.specs.laws.InstallTaken.{IsApart, taken_holds, taking_leaves, with_tables}
-use Rattle.vl_layout.specs.Sources.{tables}
-use Rattle.vl_layout.specs.Tidy.{IsTidy}
-use Rattle.vl_layout.specs.declared.layout.Layout.{Layout}
+use Rattle.vl_engine_laws.specs.laws.HeldLaws.{held_opens_again}
+use Rattle.vl_engine_laws.specs.laws.InstallTaken.{IsApart, taken_holds, taking_leaves, with_tables}
+use Rattle.vl_engine_model.specs.Sources.{tables}
+use Rattle.vl_engine_model.specs.Tidy.{IsTidy}
+use Rattle.vl_engine_model.specs.declared.layout.Layout.{Layout}
 use Rattle.vl_back.specs.declared.back.Back.{Back}
 use Rattle.vl_model.specs.History.{History}
 use Rattle.vl_model.specs.declared.entry.Entry.{Entry}

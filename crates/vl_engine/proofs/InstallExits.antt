@@ -22,41 +22,41 @@ use Rattle.vl_disk.specs.declared.name.Name.{Name}
 use Rattle.vl_disk.specs.declared.watched.Watched.{Ghosts}
 use Rattle.vl_disk.specs.declared.writer.Writer.{Ghosts as Writers}
 use Rattle.vl_disk.specs.laws.NameMap.{get_inserted_other, get_removed_other, same_or_other}
-use Rattle.vl_core.specs.laws.Carrying.{IsWatched, carries_leaving, carries_no_memory, extends_itself}
+use Rattle.vl_engine_laws.specs.laws.Carrying.{IsWatched, carries_leaving, carries_no_memory, extends_itself}
 use Rattle.vl_engine.proofs.Committing.{decides_answered, decides_failed, decides_leaving, decides_short}
 use Rattle.vl_engine.proofs.Flushed.{runs_on}
 use Rattle.vl_engine.proofs.InstallDisk.{files_held, installed_carries, installed_fits, uninstalled_carries, uninstalled_fits}
 use Rattle.vl_engine.proofs.InstallDiskLeaves.{uninstalled_leaves}
-use Rattle.vl_core.specs.laws.InstallKeeps.{log_installed}
+use Rattle.vl_engine_laws.specs.laws.InstallKeeps.{log_installed}
 use Rattle.vl_engine.proofs.InstallPut.{stands_lost, stands_put}
 use Rattle.vl_engine.proofs.Planning.{fits_abandoned, represents_abandoned, stands_abandoned}
-use Rattle.vl_core.specs.laws.Untouched.{alone}
-use Rattle.vl_core.specs.Carries.{Carries, StaysUntold}
+use Rattle.vl_engine_laws.specs.laws.Untouched.{alone}
+use Rattle.vl_engine_laws.specs.Carries.{Carries, StaysUntold}
 use Rattle.vl_engine.specs.Installing.{HandsBack, HasVersion, InstallFailed, InstallLeavesDisk, InstallsUnraced}
 use Rattle.vl_engine.specs.Installing.{IsHandedIn, IsInstalled, IsUninstalled, KeepsAllBut, MayInstall, StopsInstall}
 use Rattle.vl_engine.specs.Installing.{StopsInstalling, StopsSwitching, WritesInstall, at_manifest, at_table}
 use Rattle.vl_engine.specs.Installing.{install_otherwise}
 use Rattle.vl_engine.specs.Lent.{IsOpenAs, Opens}
 use Rattle.vl_engine.specs.Merging.{HasAllMerge, StandsOpen, install_effects, install_outcome, made_numbers}
-use Rattle.vl_core.specs.Represents.{Represents, file_of}
-use Rattle.vl_core.specs.MayStep.{AreLogFiles, Fits, LeavesNumbers}
+use Rattle.vl_engine_laws.specs.Represents.{Represents, file_of}
+use Rattle.vl_engine_laws.specs.MayStep.{AreLogFiles, Fits, LeavesNumbers}
 use Rattle.vl_engine.specs.Taking.{StopsTaking, TakesBack, file_of_table, with_files}
 use Rattle.vl_engine.specs.declared.fails.InstallFail.TheVariants as install
 use Rattle.vl_engine.specs.declared.fails.InstallFail.{InstallFail}
-use Rattle.vl_core.specs.declared.kept.Core.{Core}
+use Rattle.vl_engine_laws.specs.declared.kept.Core.{Core}
 use Rattle.vl_engine.specs.declared.open.OpenMerge.{OpenMerge}
-use Rattle.vl_core.specs.laws.InstallRulings.{GoesOn, install_exhausted, install_halted, install_made}
-use Rattle.vl_core.specs.laws.InstallRulings.{install_made_so, install_raced, install_version}
-use Rattle.vl_layout.specs.Decides.{Answered, Decides, NoMemory, no_effects}
-use Rattle.vl_layout.specs.Jobs.{AreLent, Made, job_ended}
-use Rattle.vl_layout.specs.Ruling.{Ruling, has_no_version, leaving}
-use Rattle.vl_layout.specs.Rulings.Install as ruling
-use Rattle.vl_layout.specs.Rulings.Install.{InstallAnswer, Installed, install_checked, install_lost, install_ruling}
-use Rattle.vl_layout.specs.Rulings.Install.{install_unless, moved_since, race}
-use Rattle.vl_layout.specs.declared.file_name.FileName.{FileName}
-use Rattle.vl_layout.specs.declared.job.Job.{Job}
-use Rattle.vl_layout.specs.declared.job.OpenJob.{OpenJob}
-use Rattle.vl_layout.specs.declared.layout.Layout.{Layout}
+use Rattle.vl_engine_laws.specs.laws.InstallRulings.{GoesOn, install_exhausted, install_halted, install_made}
+use Rattle.vl_engine_laws.specs.laws.InstallRulings.{install_made_so, install_raced, install_version}
+use Rattle.vl_engine_model.specs.Decides.{Answered, Decides, NoMemory, no_effects}
+use Rattle.vl_engine_model.specs.Jobs.{AreLent, Made, job_ended}
+use Rattle.vl_engine_model.specs.Ruling.{Ruling, has_no_version, leaving}
+use Rattle.vl_engine_model.specs.Rulings.Install as ruling
+use Rattle.vl_engine_model.specs.Rulings.Install.{InstallAnswer, Installed, install_checked, install_lost, install_ruling}
+use Rattle.vl_engine_model.specs.Rulings.Install.{install_unless, moved_since, race}
+use Rattle.vl_engine_model.specs.declared.file_name.FileName.{FileName}
+use Rattle.vl_engine_model.specs.declared.job.Job.{Job}
+use Rattle.vl_engine_model.specs.declared.job.OpenJob.{OpenJob}
+use Rattle.vl_engine_model.specs.declared.layout.Layout.{Layout}
 use Rattle.vl_manifest.specs.Switching.{switched}
 use Rattle.vl_manifest.specs.declared.state.ManifestState.{ManifestState}
 use Rattle.vl_model.specs.Conflicts.{Named}

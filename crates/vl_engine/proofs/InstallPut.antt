@@ -4,7 +4,7 @@ use Rattle.std.specs.List.{AllZip, filter}
 use Rattle.std.specs.Option.{option_map}
 use Rattle.std.proofs.Common.{sym, ap, subst, arith, append-nil, ◌∙◌}
 use Rattle.vl_back.specs.InstallStaging.{replacing_of}
-use Rattle.vl_block.specs.Footer.{Foot}
+use Rattle.vl_table.specs.body.Footer.{Foot}
 use Rattle.vl_compact.specs.Laid as compact
 use Rattle.vl_compact.specs.Places.{HasPlace, first_key}
 use Rattle.vl_compact.specs.Progress.{IsTableFile, made_of}
@@ -15,39 +15,39 @@ use Rattle.vl_disk.specs.DiskState.{DiskState}
 use Rattle.vl_disk.specs.declared.name.Name.{Name}
 use Rattle.vl_disk.specs.declared.watched.Watched.{Ghosts}
 use Rattle.vl_disk.specs.declared.writer.Writer.{Ghosts as Writers}
-use Rattle.vl_core.specs.laws.FlushKeeps.{as_many}
+use Rattle.vl_engine_laws.specs.laws.FlushKeeps.{as_many}
 use Rattle.vl_engine.proofs.FlushSteps.{fronts_unflushed, stands_unflushed}
-use Rattle.vl_core.specs.laws.InstallKeeps.{kept_installed}
+use Rattle.vl_engine_laws.specs.laws.InstallKeeps.{kept_installed}
 use Rattle.vl_engine.proofs.Planning.{stands_abandoned}
 use Rattle.vl_engine.proofs.TakenFiles.{AreTold, all_held_laid, tables_of}
 use Rattle.vl_engine.specs.Installing.{IsInstalled, IsUninstalled, first_made}
-use Rattle.vl_core.specs.Laid.{AreLevelsOf, AreTablesOf, HasLayout, by_level}
+use Rattle.vl_engine_laws.specs.Laid.{AreLevelsOf, AreTablesOf, HasLayout, by_level}
 use Rattle.vl_engine.specs.Merging.{HasAllMerge}
-use Rattle.vl_core.specs.Represents.{Fronts, IsFront, StandsFor, file_of}
-use Rattle.vl_core.specs.MayStep.{AreLogFiles}
+use Rattle.vl_engine_laws.specs.Represents.{Fronts, IsFront, StandsFor, file_of}
+use Rattle.vl_engine_laws.specs.MayStep.{AreLogFiles}
 use Rattle.vl_engine.specs.Taking.{IsHeldTable, TakesBack}
-use Rattle.vl_core.specs.declared.kept.Core.{Core}
-use Rattle.vl_core.specs.laws.InstallRulings.{GoesOn}
-use Rattle.vl_core.specs.laws.InstallSpares.{spares_installed}
-use Rattle.vl_core.specs.laws.InstallTidy.{IsPutTidy, logs_put, tidy_put}
-use Rattle.vl_core.specs.laws.NeededLogs.{laid_left, none_idle}
+use Rattle.vl_engine_laws.specs.declared.kept.Core.{Core}
+use Rattle.vl_engine_laws.specs.laws.InstallRulings.{GoesOn}
+use Rattle.vl_engine_laws.specs.laws.InstallSpares.{spares_installed}
+use Rattle.vl_engine_laws.specs.laws.InstallTidy.{IsPutTidy, logs_put, tidy_put}
+use Rattle.vl_engine_laws.specs.laws.NeededLogs.{laid_left, none_idle}
 use Rattle.vl_engine.specs.laws.LaidInstall.{laid_installed}
 use Rattle.vl_engine.specs.laws.PlannedJobs.{levels_are}
 use Rattle.vl_front.specs.declared.front.Front.{Front}
-use Rattle.vl_layout.specs.Jobs.{AreLent, AreOutputs, Made, job_ended}
-use Rattle.vl_layout.specs.Levels.{is_among, replaced}
-use Rattle.vl_layout.specs.Merging.{outputs}
-use Rattle.vl_layout.specs.OpenJobs.{IsFitted, IsOpenWell, IsRoomy}
-use Rattle.vl_layout.specs.Ruling.{halted_at}
-use Rattle.vl_layout.specs.Rulings.Install.{installed, put_in}
-use Rattle.vl_layout.specs.Sources as layout
-use Rattle.vl_layout.specs.Sources.{numbers_of}
-use Rattle.vl_layout.specs.declared.job.Job.{Job}
-use Rattle.vl_layout.specs.declared.job.OpenJob.{OpenJob}
-use Rattle.vl_layout.specs.declared.job.Target.TheVariants.{InPlace, Level}
-use Rattle.vl_layout.specs.declared.job.Target.{Target}
-use Rattle.vl_layout.specs.declared.layout.Layout.{Layout}
-use Rattle.vl_layout.specs.declared.table.Table as laid
+use Rattle.vl_engine_model.specs.Jobs.{AreLent, AreOutputs, Made, job_ended}
+use Rattle.vl_engine_model.specs.Levels.{is_among, replaced}
+use Rattle.vl_engine_model.specs.Merging.{outputs}
+use Rattle.vl_engine_model.specs.OpenJobs.{IsFitted, IsOpenWell, IsRoomy}
+use Rattle.vl_engine_model.specs.Ruling.{halted_at}
+use Rattle.vl_engine_model.specs.Rulings.Install.{installed, put_in}
+use Rattle.vl_engine_model.specs.Sources as layout
+use Rattle.vl_engine_model.specs.Sources.{numbers_of}
+use Rattle.vl_engine_model.specs.declared.job.Job.{Job}
+use Rattle.vl_engine_model.specs.declared.job.OpenJob.{OpenJob}
+use Rattle.vl_engine_model.specs.declared.job.Target.TheVariants.{InPlace, Level}
+use Rattle.vl_engine_model.specs.declared.job.Target.{Target}
+use Rattle.vl_engine_model.specs.declared.layout.Layout.{Layout}
+use Rattle.vl_engine_model.specs.declared.table.Table as laid
 use Rattle.vl_manifest.specs.declared.state.ManifestState.{ManifestState}
 use Rattle.vl_model.specs.Conflicts.{Named}
 use Rattle.vl_memtable.specs.declared.frozen_log.FrozenLog.{FrozenLog}

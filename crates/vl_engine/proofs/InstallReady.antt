@@ -11,11 +11,11 @@ use Rattle.vl_compact.specs.declared.job.Job.{Job}
 use Rattle.vl_disk.specs.declared.writer.Writer.{Ghosts as Writers}
 use Rattle.vl_engine.specs.Installing.{IsReadyFor, first_made}
 use Rattle.vl_engine.specs.declared.installing.ReadyInstall.{ReadyInstall}
-use Rattle.vl_core.specs.declared.kept.Core.{Core}
-use Rattle.vl_layout.specs.Merging.{gone_after, needless}
-use Rattle.vl_layout.specs.declared.job.Job as laid_job
-use Rattle.vl_layout.specs.declared.job.Target.{Target}
-use Rattle.vl_layout.specs.declared.table.Table as laid
+use Rattle.vl_engine_laws.specs.declared.kept.Core.{Core}
+use Rattle.vl_engine_model.specs.Merging.{gone_after, needless}
+use Rattle.vl_engine_model.specs.declared.job.Job as laid_job
+use Rattle.vl_engine_model.specs.declared.job.Target.{Target}
+use Rattle.vl_engine_model.specs.declared.table.Table as laid
 use Rattle.vl_table.specs.Tables.{number_of}
 use Rattle.vl_version.specs.Bases.{HasSources}
 use Rattle.vl_version.specs.Replacing.{IsReplaced}

@@ -11,10 +11,10 @@ use Rattle.vl_engine.specs.Installing.{InstallsCore, InstallsUnraced, IsInstallW
 use Rattle.vl_engine.specs.Merging.{HasAllMerge}
 use Rattle.vl_engine.specs.declared.fails.InstallFail.TheVariants as install
 use Rattle.vl_engine.specs.declared.fails.InstallFail.{InstallFail}
-use Rattle.vl_core.specs.declared.kept.Core.{Core}
+use Rattle.vl_engine_laws.specs.declared.kept.Core.{Core}
 use Rattle.vl_engine.specs.declared.open.OpenMerge.{OpenMerge}
-use Rattle.vl_layout.specs.Rulings.Install.{race}
-use Rattle.vl_layout.specs.declared.job.Job.{Job}
+use Rattle.vl_engine_model.specs.Rulings.Install.{race}
+use Rattle.vl_engine_model.specs.declared.job.Job.{Job}
 use Rattle.vl_model.specs.Conflicts.{Named}
 use Rattle.vl_model.specs.Limits.{max_version_number}
 use Rattle.vl_version.specs.declared.base.Base.{Base}

@@ -1,10 +1,10 @@
 -- What is kept of which files can go, behind a change of how many versions are kept.
 use Rattle.std.specs.Prelude.{◌≡◌, ℕ, Result, Ok, Err, refl}
 use Rattle.std.proofs.Common.{sym, ap, subst, arith}
-use Rattle.vl_core.specs.KeepFacts.{MayKeep}
-use Rattle.vl_core.specs.Represents.{Fronts, file_of}
-use Rattle.vl_core.specs.declared.kept.Core.{Core}
-use Rattle.vl_core.specs.laws.KeepLaws.{keep_made}
+use Rattle.vl_engine_laws.specs.KeepFacts.{MayKeep}
+use Rattle.vl_engine_laws.specs.Represents.{Fronts, file_of}
+use Rattle.vl_engine_laws.specs.declared.kept.Core.{Core}
+use Rattle.vl_engine_laws.specs.laws.KeepLaws.{keep_made}
 use Rattle.vl_disk.specs.declared.watched.Watched.{Ghosts}
 use Rattle.vl_engine.proofs.Committing.{decides_answered, decides_failed, decides_short}
 use Rattle.vl_engine.proofs.KeptBy.{ruled_made, runs_on, two_counted}
@@ -14,10 +14,10 @@ use Rattle.vl_engine.specs.Removing.{Removes}
 use Rattle.vl_engine.specs.declared.fails.KeepFail.TheVariants as fails
 use Rattle.vl_engine.specs.declared.fails.KeepFail.{KeepFail}
 use Rattle.vl_engine.specs.declared.open.Removing.{Removing}
-use Rattle.vl_layout.specs.Decides.{Answered, Decides, as_before, no_effects}
-use Rattle.vl_layout.specs.Ruling.{Ruling}
-use Rattle.vl_layout.specs.Rulings.Keep.{KeepAnswer, Kept, keep_ruling, keeping}
-use Rattle.vl_layout.specs.declared.layout.Layout.{Layout}
+use Rattle.vl_engine_model.specs.Decides.{Answered, Decides, as_before, no_effects}
+use Rattle.vl_engine_model.specs.Ruling.{Ruling}
+use Rattle.vl_engine_model.specs.Rulings.Keep.{KeepAnswer, Kept, keep_ruling, keeping}
+use Rattle.vl_engine_model.specs.declared.layout.Layout.{Layout}
 use Rattle.vl_model.specs.History.{History}
 use Rattle.vl_pins.specs.Pins.{ArePinsOf}
 

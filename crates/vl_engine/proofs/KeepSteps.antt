@@ -10,37 +10,37 @@ use Rattle.vl_disk.specs.Moments.{While, goes_by}
 use Rattle.vl_disk.specs.declared.name.Name.TheVariants as names
 use Rattle.vl_disk.specs.declared.name.Name.{Name}
 use Rattle.vl_disk.specs.declared.watched.Watched.{Ghosts}
-use Rattle.vl_core.specs.laws.Carrying.{IsWatched, looked}
+use Rattle.vl_engine_laws.specs.laws.Carrying.{IsWatched, looked}
 use Rattle.vl_engine.proofs.Committing.{decides_answered, decides_failed}
-use Rattle.vl_core.specs.laws.FlushKeeps.{as_many}
+use Rattle.vl_engine_laws.specs.laws.FlushKeeps.{as_many}
 use Rattle.vl_engine.proofs.FlushSteps.{fronts_unflushed, same_log}
 use Rattle.vl_engine.proofs.Leaving.{either_state, manifest_held}
-use Rattle.vl_core.specs.laws.Represented.{represents_halted}
-use Rattle.vl_core.specs.Carries.{Carries, CrashesShow}
-use Rattle.vl_core.specs.Held.{Base}
-use Rattle.vl_core.specs.KeepFacts.{IsNextBack, IsStagedKeep, WhileKeeping, WritesKeep, keep_switch, keep_written}
-use Rattle.vl_core.specs.Laid.{HasLayout}
-use Rattle.vl_core.specs.Pointed.{layout_logs}
-use Rattle.vl_core.specs.Represents.{Fronts, IsFront, IsHeld, Represents, StandsFor, file_of}
-use Rattle.vl_core.specs.Shown.{LeavesBetween}
-use Rattle.vl_core.specs.MayStep.{LeavesNumbers}
-use Rattle.vl_core.specs.declared.kept.Core.{Core}
-use Rattle.vl_core.specs.laws.HeldLaws.{held_opens_again}
-use Rattle.vl_core.specs.laws.KeepLaws.{CanKeep, base_then, edits_of, files_then, final, keep_holds, keep_leaves}
-use Rattle.vl_core.specs.laws.KeepLaws.{keep_made, keep_opens_again, kept_state, later, tidy_then}
-use Rattle.vl_core.specs.laws.KeptLaws.{begun_kept, table_manifest, written_elsewhere}
-use Rattle.vl_core.specs.laws.ShownLaws.{between_itself}
-use Rattle.vl_core.specs.laws.SparedSteps.{spares_keeping}
-use Rattle.vl_core.specs.laws.SwitchLaws.{switch_frame, switching_says}
+use Rattle.vl_engine_laws.specs.laws.Represented.{represents_halted}
+use Rattle.vl_engine_laws.specs.Carries.{Carries, CrashesShow}
+use Rattle.vl_engine_laws.specs.Held.{Base}
+use Rattle.vl_engine_laws.specs.KeepFacts.{IsNextBack, IsStagedKeep, WhileKeeping, WritesKeep, keep_switch, keep_written}
+use Rattle.vl_engine_laws.specs.Laid.{HasLayout}
+use Rattle.vl_engine_laws.specs.Pointed.{layout_logs}
+use Rattle.vl_engine_laws.specs.Represents.{Fronts, IsFront, IsHeld, Represents, StandsFor, file_of}
+use Rattle.vl_engine_laws.specs.Shown.{LeavesBetween}
+use Rattle.vl_engine_laws.specs.MayStep.{LeavesNumbers}
+use Rattle.vl_engine_laws.specs.declared.kept.Core.{Core}
+use Rattle.vl_engine_laws.specs.laws.HeldLaws.{held_opens_again}
+use Rattle.vl_engine_laws.specs.laws.KeepLaws.{CanKeep, base_then, edits_of, files_then, final, keep_holds, keep_leaves}
+use Rattle.vl_engine_laws.specs.laws.KeepLaws.{keep_made, keep_opens_again, kept_state, later, tidy_then}
+use Rattle.vl_engine_laws.specs.laws.KeptLaws.{begun_kept, table_manifest, written_elsewhere}
+use Rattle.vl_engine_laws.specs.laws.ShownLaws.{between_itself}
+use Rattle.vl_engine_laws.specs.laws.SparedSteps.{spares_keeping}
+use Rattle.vl_engine_laws.specs.laws.SwitchLaws.{switch_frame, switching_says}
 use Rattle.vl_frame.specs.Runs.{HasFrame, item_frame}
 use Rattle.vl_front.specs.declared.front.Front.{Front}
-use Rattle.vl_layout.specs.Decides.{Answered, Effects, Failed, as_before}
-use Rattle.vl_layout.specs.Ruling.{halted_at}
-use Rattle.vl_layout.specs.Rulings.Keep.{Kept, keeping}
-use Rattle.vl_layout.specs.Start.{newest_first}
-use Rattle.vl_layout.specs.Tidy.{IsTidy}
-use Rattle.vl_layout.specs.declared.layout.Layout.{Layout}
-use Rattle.vl_layout_laws.specs.laws.TidySteps.{tidy_keeping}
+use Rattle.vl_engine_model.specs.Decides.{Answered, Effects, Failed, as_before}
+use Rattle.vl_engine_model.specs.Ruling.{halted_at}
+use Rattle.vl_engine_model.specs.Rulings.Keep.{Kept, keeping}
+use Rattle.vl_engine_model.specs.Start.{newest_first}
+use Rattle.vl_engine_model.specs.Tidy.{IsTidy}
+use Rattle.vl_engine_model.specs.declared.layout.Layout.{Layout}
+use Rattle.vl_engine_model_laws.specs.laws.TidySteps.{tidy_keeping}
 use Rattle.vl_manifest.specs.Grammar.{edits_grammar}
 use Rattle.vl_manifest.specs.States.{max_keep}
 use Rattle.vl_manifest.specs.Switching.{WhileSwitching, switched}

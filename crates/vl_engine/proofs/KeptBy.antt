@@ -14,33 +14,33 @@ use Rattle.vl_disk.specs.Performs.{FailedAt, Performs, StopsAmong, calls_on}
 use Rattle.vl_disk.specs.declared.name.Name.TheVariants as names
 use Rattle.vl_disk.specs.declared.name.Name.{Name}
 use Rattle.vl_disk.specs.declared.watched.Watched.{Ghosts}
-use Rattle.vl_core.specs.laws.Carrying.{IsWatched, carries_leaving, carries_no_memory, extends_itself}
+use Rattle.vl_engine_laws.specs.laws.Carrying.{IsWatched, carries_leaving, carries_no_memory, extends_itself}
 use Rattle.vl_engine.proofs.Committing.{decides_answered, decides_failed, decides_leaving, decides_short}
 use Rattle.vl_engine.proofs.Filing.{files_changed, files_written}
-use Rattle.vl_core.specs.laws.FlushKeeps.{stands_kept}
+use Rattle.vl_engine_laws.specs.laws.FlushKeeps.{stands_kept}
 use Rattle.vl_engine.proofs.KeepSteps.{carries_kept, carries_unkept, fronts_kept, fronts_unkept}
 use Rattle.vl_engine.proofs.KeepSteps as steps
-use Rattle.vl_core.specs.laws.Standing.{stands_halted}
+use Rattle.vl_engine_laws.specs.laws.Standing.{stands_halted}
 use Rattle.vl_engine.proofs.Stepped.{fits_back, fits_halted}
-use Rattle.vl_core.specs.Carries.{Carries, HasSameFiles, SameFiles}
-use Rattle.vl_core.specs.Fit.{IsFitFor}
+use Rattle.vl_engine_laws.specs.Carries.{Carries, HasSameFiles, SameFiles}
+use Rattle.vl_engine_laws.specs.Fit.{IsFitFor}
 use Rattle.vl_engine.specs.Keeping.{KeepFailed, KeepLeavesDisk, KeepsAs}
-use Rattle.vl_core.specs.KeepFacts.{AreKept, IsKeepWritten, IsStagedKeep}
+use Rattle.vl_engine_laws.specs.KeepFacts.{AreKept, IsKeepWritten, IsStagedKeep}
 use Rattle.vl_engine.specs.Keeping.{keep_calls, keep_effects, keep_outcome}
-use Rattle.vl_core.specs.KeepFacts.{MayKeep, StopsKeeping, WritesKeep}
-use Rattle.vl_core.specs.KeepFacts.{keep_written, next_since}
-use Rattle.vl_core.specs.Represents.{Fronts, Represents, StandsFor, file_of}
-use Rattle.vl_core.specs.MayStep.{Fits, MayStep}
+use Rattle.vl_engine_laws.specs.KeepFacts.{MayKeep, StopsKeeping, WritesKeep}
+use Rattle.vl_engine_laws.specs.KeepFacts.{keep_written, next_since}
+use Rattle.vl_engine_laws.specs.Represents.{Fronts, Represents, StandsFor, file_of}
+use Rattle.vl_engine_laws.specs.MayStep.{Fits, MayStep}
 use Rattle.vl_engine.specs.declared.fails.KeepFail.TheVariants as fails
 use Rattle.vl_engine.specs.declared.fails.KeepFail.{KeepFail}
-use Rattle.vl_core.specs.declared.kept.Core.{Core}
-use Rattle.vl_core.specs.laws.KeepLaws.{keep_halted, keep_invalid, keep_made, keep_other, keep_same}
-use Rattle.vl_core.specs.laws.KeptLaws.{log_manifest, written_elsewhere}
-use Rattle.vl_layout.specs.Decides.{Answered, Decides, Effects, Failed, NoMemory, as_before, no_effects}
-use Rattle.vl_layout.specs.Ruling.{Ruling, leaving}
-use Rattle.vl_layout.specs.Rulings.Keep.{Halted, InvalidRequest, KeepAnswer, Kept, keep_ruling, keeping}
-use Rattle.vl_layout.specs.Start.{newest_first}
-use Rattle.vl_layout.specs.declared.layout.Layout.{Layout}
+use Rattle.vl_engine_laws.specs.declared.kept.Core.{Core}
+use Rattle.vl_engine_laws.specs.laws.KeepLaws.{keep_halted, keep_invalid, keep_made, keep_other, keep_same}
+use Rattle.vl_engine_laws.specs.laws.KeptLaws.{log_manifest, written_elsewhere}
+use Rattle.vl_engine_model.specs.Decides.{Answered, Decides, Effects, Failed, NoMemory, as_before, no_effects}
+use Rattle.vl_engine_model.specs.Ruling.{Ruling, leaving}
+use Rattle.vl_engine_model.specs.Rulings.Keep.{Halted, InvalidRequest, KeepAnswer, Kept, keep_ruling, keeping}
+use Rattle.vl_engine_model.specs.Start.{newest_first}
+use Rattle.vl_engine_model.specs.declared.layout.Layout.{Layout}
 use Rattle.vl_manifest.specs.States.{max_keep}
 use Rattle.vl_manifest.specs.Switching.{IsStaged, WhileSwitching, switched}
 use Rattle.vl_manifest.specs.declared.edit.Edit.TheVariants.{Keep}

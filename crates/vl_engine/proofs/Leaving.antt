@@ -16,21 +16,21 @@ use Rattle.vl_disk.specs.MadeFile.{WhileMaking}
 use Rattle.vl_disk.specs.declared.name.Name.{Name}
 use Rattle.vl_disk.specs.declared.watched.Watched.{Ghosts}
 use Rattle.vl_engine.specs.Flushing.{FlushesAs}
-use Rattle.vl_core.specs.Held.{Base, Holds, HoldsBase, IsBase, frames_of}
-use Rattle.vl_core.specs.Pointed.{layout_logs}
-use Rattle.vl_core.specs.Represents.{IsBack}
+use Rattle.vl_engine_laws.specs.Held.{Base, Holds, HoldsBase, IsBase, frames_of}
+use Rattle.vl_engine_laws.specs.Pointed.{layout_logs}
+use Rattle.vl_engine_laws.specs.Represents.{IsBack}
 use Rattle.vl_engine.specs.Rotating.{RotatesAs}
 use Rattle.vl_engine.specs.Stepping.{StepFailed}
 use Rattle.vl_engine.specs.declared.fails.StepFail.{StepFail}
 use Rattle.vl_engine.specs.declared.fails.StepFail.TheVariants as fails
-use Rattle.vl_core.specs.declared.kept.Core.{Core}
-use Rattle.vl_core.specs.laws.FlushLaws.{flush_made}
-use Rattle.vl_core.specs.laws.HeldLaws.{base_says}
-use Rattle.vl_core.specs.laws.KeptLaws.{nothing_elsewhere}
-use Rattle.vl_layout.specs.Sources.{number_or, oldest}
-use Rattle.vl_layout.specs.Tidy.{IsTidy}
-use Rattle.vl_layout.specs.declared.layout.Layout.{Layout}
-use Rattle.vl_layout.specs.declared.segment.Segment.{Segment}
+use Rattle.vl_engine_laws.specs.declared.kept.Core.{Core}
+use Rattle.vl_engine_laws.specs.laws.FlushLaws.{flush_made}
+use Rattle.vl_engine_laws.specs.laws.HeldLaws.{base_says}
+use Rattle.vl_engine_laws.specs.laws.KeptLaws.{nothing_elsewhere}
+use Rattle.vl_engine_model.specs.Sources.{number_or, oldest}
+use Rattle.vl_engine_model.specs.Tidy.{IsTidy}
+use Rattle.vl_engine_model.specs.declared.layout.Layout.{Layout}
+use Rattle.vl_engine_model.specs.declared.segment.Segment.{Segment}
 use Rattle.vl_manifest.specs.Levels.{all_tables, is_in, put_at}
 use Rattle.vl_manifest.specs.Current.{IsCurrent}
 use Rattle.vl_manifest.specs.Manifest.{SaysState, manifest_bytes}

@@ -11,8 +11,8 @@ use Rattle.vl_compact.specs.Progress.{made_of}
 use Rattle.vl_compact.specs.declared.files.Lent.{Lent}
 use Rattle.vl_compact.specs.declared.files.Synced.{Synced}
 use Rattle.vl_compact.specs.declared.job.Job.{Job as Merging}
-use Rattle.vl_core.specs.Represents.{file_of}
-use Rattle.vl_core.specs.declared.kept.Core.{Core}
+use Rattle.vl_engine_laws.specs.Represents.{file_of}
+use Rattle.vl_engine_laws.specs.declared.kept.Core.{Core}
 use Rattle.vl_disk.specs.Disk.{Stands}
 use Rattle.vl_disk.specs.DiskState.{DiskState}
 use Rattle.vl_disk.specs.declared.name.Name.{Name}
@@ -31,12 +31,12 @@ use Rattle.vl_engine.specs.Retiring.{LeavesFiles, all_left, files_in, left_of}
 use Rattle.vl_engine.specs.UnderWay.{IsUnderWay}
 use Rattle.vl_engine.specs.declared.open.OpenMerge.{OpenMerge}
 use Rattle.vl_engine.specs.declared.open.Removing.{Removing}
-use Rattle.vl_layout.specs.Jobs.{AreDistinct, Made, job_ended, loose, tables_made}
-use Rattle.vl_layout.specs.Merging.{outputs}
-use Rattle.vl_layout.specs.Sources.{numbers_of}
-use Rattle.vl_layout.specs.declared.file_name.Retired.{Retired}
-use Rattle.vl_layout.specs.declared.job.Job.{Job}
-use Rattle.vl_layout.specs.declared.layout.Layout.{Layout}
+use Rattle.vl_engine_model.specs.Jobs.{AreDistinct, Made, job_ended, loose, tables_made}
+use Rattle.vl_engine_model.specs.Merging.{outputs}
+use Rattle.vl_engine_model.specs.Sources.{numbers_of}
+use Rattle.vl_engine_model.specs.declared.file_name.Retired.{Retired}
+use Rattle.vl_engine_model.specs.declared.job.Job.{Job}
+use Rattle.vl_engine_model.specs.declared.layout.Layout.{Layout}
 use Rattle.vl_model.specs.Numbers.{has}
 use Rattle.vl_model.specs.declared.entry.Entry.{Entry}
 use Rattle.vl_pins.specs.Files.{left_at, retired_of}

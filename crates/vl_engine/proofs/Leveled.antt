@@ -2,7 +2,7 @@
 use Rattle.std.specs.Prelude.{◌≡◌, ◌≤◌, ℕ, List, [], ◌∷◌, length, map, slice_index_or, Vec}
 use Rattle.std.specs.List.{remove}
 use Rattle.std.proofs.Common.{ap, arith, Global, ◌∙◌}
-use Rattle.vl_core.specs.Found.{AreLeveled}
+use Rattle.vl_engine_laws.specs.Found.{AreLeveled}
 use Rattle.vl_table.specs.declared.table.Table.{Table}
 use Rattle.vl_version.specs.declared.levels.Levels.{Levels}
 

@@ -3,22 +3,22 @@ use Rattle.std.specs.Prelude.{◌≡◌, ◌≤◌, ◌+◌, ℕ, nat_le, if◌t
 use Rattle.std.specs.Option.{option_map}
 use Rattle.std.proofs.Common.{sym, ap, subst, ◌∙◌, arith}
 use Rattle.vl_back.specs.declared.back.Back.{Back}
-use Rattle.vl_core.specs.declared.kept.Core.{Core}
+use Rattle.vl_engine_laws.specs.declared.kept.Core.{Core}
 use Rattle.vl_engine.proofs.StillRemoved.{pins_alike, removes_alike, removes_halted, removes_same}
 use Rattle.vl_engine.specs.Relocating.{NotesMoves}
 use Rattle.vl_engine.specs.Removing.{Removes, lent_in}
 use Rattle.vl_engine.specs.declared.open.OpenMerge.{OpenMerge}
 use Rattle.vl_engine.specs.declared.open.Removing.{Removing}
-use Rattle.vl_layout.specs.Decides.{Decides, Effects, Outcome, as_before}
-use Rattle.vl_layout.specs.Jobs.{lent_numbers}
-use Rattle.vl_layout.specs.Relocation.{Candidate, Pass, moved_of}
-use Rattle.vl_layout.specs.Ruling.{Ruling, halted_at, has_no_version, leaving}
-use Rattle.vl_layout.specs.Rulings.Relocate.{Exhausted, Full, MoveAnswer, Moves, moves_at, relocate_of, relocate_ruling, relocate_unless}
-use Rattle.vl_layout.specs.Rulings.Relocate.{relocated, with_moves}
-use Rattle.vl_layout.specs.Sources.{sources}
-use Rattle.vl_layout.specs.declared.file_name.FileName.{FileName}
-use Rattle.vl_layout.specs.declared.job.OpenJob.{OpenJob}
-use Rattle.vl_layout.specs.declared.layout.Layout.{Layout}
+use Rattle.vl_engine_model.specs.Decides.{Decides, Effects, Outcome, as_before}
+use Rattle.vl_engine_model.specs.Jobs.{lent_numbers}
+use Rattle.vl_engine_model.specs.Relocation.{Candidate, Pass, moved_of}
+use Rattle.vl_engine_model.specs.Ruling.{Ruling, halted_at, has_no_version, leaving}
+use Rattle.vl_engine_model.specs.Rulings.Relocate.{Exhausted, Full, MoveAnswer, Moves, moves_at, relocate_of, relocate_ruling, relocate_unless}
+use Rattle.vl_engine_model.specs.Rulings.Relocate.{relocated, with_moves}
+use Rattle.vl_engine_model.specs.Sources.{sources}
+use Rattle.vl_engine_model.specs.declared.file_name.FileName.{FileName}
+use Rattle.vl_engine_model.specs.declared.job.OpenJob.{OpenJob}
+use Rattle.vl_engine_model.specs.declared.layout.Layout.{Layout}
 use Rattle.vl_model.specs.Conflicts.{Named}
 use Rattle.vl_model.specs.Frames.{frame_length}
 use Rattle.vl_model.specs.History.{History, last_number}

@@ -7,10 +7,10 @@ use Rattle.std.specs.Option.{option_map}
 use Rattle.std.proofs.Common.{sym, ap, subst, ◌∙◌, arith, inl, inr, ⊎_elim}
 use Rattle.std.proofs.lemmas.List.Elements.{All-from_recursion}
 use Rattle.vl_compact.specs.declared.files.Lent.{Lent}
-use Rattle.vl_core.specs.Found.{IsCoreOf}
-use Rattle.vl_core.specs.Laid.{by_level}
-use Rattle.vl_core.specs.declared.kept.Core.{Core}
-use Rattle.vl_core.specs.laws.StartLaws.{IsAsRead, before_from, before_read}
+use Rattle.vl_engine_laws.specs.Found.{IsCoreOf}
+use Rattle.vl_engine_laws.specs.Laid.{by_level}
+use Rattle.vl_engine_laws.specs.declared.kept.Core.{Core}
+use Rattle.vl_engine_laws.specs.laws.StartLaws.{IsAsRead, before_from, before_read}
 use Rattle.vl_disk.specs.Changes.{changed_elsewhere, changed_there}
 use Rattle.vl_disk.specs.Crash.{Image}
 use Rattle.vl_disk.specs.Disk.{Stands}
@@ -24,7 +24,7 @@ use Rattle.vl_disk.specs.declared.writer.Writer.{Ghosts as Writers}
 use Rattle.vl_disk.specs.laws.NameMap.{get_inserted, get_inserted_other, get_removed_other, same_or_other}
 use Rattle.vl_engine.specs.Removing.{HasInUse, IsThere, IsWaiting, are_distinct, are_unused, is_none_of, logs_in_use, numbers_left}
 use Rattle.vl_engine.specs.Removing.{standing_names, tables_in_use}
-use Rattle.vl_layout.specs.declared.segment.Segment.{Segment}
+use Rattle.vl_engine_model.specs.declared.segment.Segment.{Segment}
 use Rattle.vl_model.specs.Formats.{log_format}
 use Rattle.vl_pins.specs.declared.in_use.InUse.{InUse}
 use Rattle.vl_pins.specs.declared.retired_file.RetiredFile.{RetiredFile}

@@ -1,20 +1,20 @@
 -- What an engine stands for, in memory and on the disk, doesn't look at the pass that is open.
 use Rattle.std.specs.Prelude.{ℕ, List, [], ◌∷◌, Option}
 use Rattle.std.specs.List.{AllByRecursion}
-use Rattle.vl_core.specs.Held.{Base, Holds, IsBase}
-use Rattle.vl_core.specs.Laid.{HasLayout}
-use Rattle.vl_core.specs.MayStep.{Fits}
-use Rattle.vl_core.specs.Files.{HoldsLog, IsLogFile}
-use Rattle.vl_core.specs.Passing.{AreReadable}
-use Rattle.vl_core.specs.Pointed.{layout_logs}
-use Rattle.vl_core.specs.Represents.{Fronts, IsFront, IsHeld, Represents, StandsFor}
-use Rattle.vl_core.specs.declared.kept.Core.{Core}
+use Rattle.vl_engine_laws.specs.Held.{Base, Holds, IsBase}
+use Rattle.vl_engine_laws.specs.Laid.{HasLayout}
+use Rattle.vl_engine_laws.specs.MayStep.{Fits}
+use Rattle.vl_engine_laws.specs.Files.{HoldsLog, IsLogFile}
+use Rattle.vl_engine_laws.specs.Passing.{AreReadable}
+use Rattle.vl_engine_laws.specs.Pointed.{layout_logs}
+use Rattle.vl_engine_laws.specs.Represents.{Fronts, IsFront, IsHeld, Represents, StandsFor}
+use Rattle.vl_engine_laws.specs.declared.kept.Core.{Core}
 use Rattle.vl_back.specs.declared.back.Back.{Back}
 use Rattle.vl_disk.specs.DiskState.{DiskState}
-use Rattle.vl_layout.specs.Tidy.{IsTidy}
-use Rattle.vl_layout.specs.declared.job.OpenPass.{OpenPass}
-use Rattle.vl_layout.specs.declared.layout.Layout.{Layout}
-use Rattle.vl_layout.specs.declared.segment.Segment.{Segment}
+use Rattle.vl_engine_model.specs.Tidy.{IsTidy}
+use Rattle.vl_engine_model.specs.declared.job.OpenPass.{OpenPass}
+use Rattle.vl_engine_model.specs.declared.layout.Layout.{Layout}
+use Rattle.vl_engine_model.specs.declared.segment.Segment.{Segment}
 use Rattle.vl_model.specs.Conflicts.{Named}
 use Rattle.vl_model.specs.History.{History}
 use Rattle.vl_oracle.specs.LiveTickets.{LiveTickets}

@@ -9,12 +9,12 @@ use Rattle.vl_seglog.specs.laws.FrameLaws.{length-log_bytes}
 use Rattle.std.specs.Option.{ForSome, option_map}
 use Rattle.std.proofs.Common.{sym, ap, subst, ◌∙◌, arith}
 use Rattle.std.proofs.lemmas.List.{drop_at}
-use Rattle.vl_core.specs.Files.{IsLogFile}
-use Rattle.vl_core.specs.Laid.{HasLayout, HasLog, IsLogOf}
-use Rattle.vl_core.specs.Passing.{AreReadable}
-use Rattle.vl_core.specs.Pointed.{bytes_of_log, layout_logs, segment_at}
-use Rattle.vl_core.specs.Represents.{StandsFor}
-use Rattle.vl_core.specs.declared.kept.Core.{Core}
+use Rattle.vl_engine_laws.specs.Files.{IsLogFile}
+use Rattle.vl_engine_laws.specs.Laid.{HasLayout, HasLog, IsLogOf}
+use Rattle.vl_engine_laws.specs.Passing.{AreReadable}
+use Rattle.vl_engine_laws.specs.Pointed.{bytes_of_log, layout_logs, segment_at}
+use Rattle.vl_engine_laws.specs.Represents.{StandsFor}
+use Rattle.vl_engine_laws.specs.declared.kept.Core.{Core}
 use Rattle.vl_engine.proofs.Beginning.{looks_told}
 use Rattle.vl_engine.proofs.Collected.{tallies_alike, tallies_made}
 use Rattle.vl_engine.proofs.Committing.{decides_answered, decides_short}
@@ -27,26 +27,26 @@ use Rattle.vl_engine.specs.declared.open.Collecting.{Collecting}
 use Rattle.vl_engine.specs.laws.PlannedJobs.{has_sources}
 use Rattle.vl_frame.specs.Runs.{ReadsAs, run_bytes}
 use Rattle.vl_frame.specs.laws.RunLaws.{reads_whole}
-use Rattle.vl_layout.specs.Decides.{Decides, as_before, effects_of, no_effects}
-use Rattle.vl_layout.specs.Garbage.{best, best_of, better_of, is_better, is_worth, stat_of}
-use Rattle.vl_layout.specs.Jobs.{AreDistinct}
-use Rattle.vl_layout.specs.Logs.{records, records_from}
-use Rattle.vl_layout.specs.Marks.{plain}
-use Rattle.vl_layout.specs.Merging.{Sourced}
-use Rattle.vl_layout.specs.Rulings.Plan.{sourced}
-use Rattle.vl_layout.specs.Relocation as layout
-use Rattle.vl_layout.specs.Ruling.{Ruling, leaving}
-use Rattle.vl_layout.specs.Rulings.Pick.{InvalidRequest, NoRewrite, PickAnswer, Picked, Rejected, pass_over, pick_best, pick_ruling}
-use Rattle.vl_layout.specs.Rulings.Pick.{pick_unless, records_in, with_pass}
-use Rattle.vl_layout.specs.Sources.{head, tables}
-use Rattle.vl_layout.specs.Tidy.{IsTidy, log_numbers, sealed}
-use Rattle.vl_layout_laws.specs.laws.TidyRulings.{pick_tidy}
-use Rattle.vl_layout.specs.declared.job.OpenPass.{OpenPass}
-use Rattle.vl_layout.specs.declared.layout.Layout.{Layout}
-use Rattle.vl_layout.specs.declared.segment.Segment.{Segment}
-use Rattle.vl_layout.specs.declared.segment.SegmentStat.{SegmentStat}
-use Rattle.vl_layout.specs.declared.table.Table as laid
-use Rattle.vl_layout.specs.laws.TableLaws.{plain-sourced}
+use Rattle.vl_engine_model.specs.Decides.{Decides, as_before, effects_of, no_effects}
+use Rattle.vl_engine_model.specs.Garbage.{best, best_of, better_of, is_better, is_worth, stat_of}
+use Rattle.vl_engine_model.specs.Jobs.{AreDistinct}
+use Rattle.vl_engine_model.specs.Logs.{records, records_from}
+use Rattle.vl_engine_model.specs.Marks.{plain}
+use Rattle.vl_engine_model.specs.Merging.{Sourced}
+use Rattle.vl_engine_model.specs.Rulings.Plan.{sourced}
+use Rattle.vl_engine_model.specs.Relocation as layout
+use Rattle.vl_engine_model.specs.Ruling.{Ruling, leaving}
+use Rattle.vl_engine_model.specs.Rulings.Pick.{InvalidRequest, NoRewrite, PickAnswer, Picked, Rejected, pass_over, pick_best, pick_ruling}
+use Rattle.vl_engine_model.specs.Rulings.Pick.{pick_unless, records_in, with_pass}
+use Rattle.vl_engine_model.specs.Sources.{head, tables}
+use Rattle.vl_engine_model.specs.Tidy.{IsTidy, log_numbers, sealed}
+use Rattle.vl_engine_model_laws.specs.laws.TidyRulings.{pick_tidy}
+use Rattle.vl_engine_model.specs.declared.job.OpenPass.{OpenPass}
+use Rattle.vl_engine_model.specs.declared.layout.Layout.{Layout}
+use Rattle.vl_engine_model.specs.declared.segment.Segment.{Segment}
+use Rattle.vl_engine_model.specs.declared.segment.SegmentStat.{SegmentStat}
+use Rattle.vl_engine_model.specs.declared.table.Table as laid
+use Rattle.vl_engine_model.specs.laws.TableLaws.{plain-sourced}
 use Rattle.vl_merge.specs.Marked.{all_of}
 use Rattle.vl_model.specs.History.{History}
 use Rattle.vl_model.specs.declared.entry.Entry.{Entry}

@@ -3,11 +3,11 @@ use Rattle.std.specs.Prelude.{◌≡◌, ℕ, length, IsErrAnd, Some, Result, Ok
 use Rattle.std.proofs.Common.{sym, ap, subst, ◌∙◌}
 use Rattle.std.proofs.lemmas.List.{length-map}
 use Rattle.vl_engine.specs.Pinning.{PinsAs, PinsLive, without_pin}
-use Rattle.vl_layout.specs.Rulings.Begin.{begun as begun_there}
-use Rattle.vl_layout.specs.Tickets as tickets
-use Rattle.vl_layout.specs.Tickets.{tickets_of}
-use Rattle.vl_layout.specs.declared.layout.Layout.{Layout}
-use Rattle.vl_layout.specs.declared.live.Live.{Live}
+use Rattle.vl_engine_model.specs.Rulings.Begin.{begun as begun_there}
+use Rattle.vl_engine_model.specs.Tickets as tickets
+use Rattle.vl_engine_model.specs.Tickets.{tickets_of}
+use Rattle.vl_engine_model.specs.declared.layout.Layout.{Layout}
+use Rattle.vl_engine_model.specs.declared.live.Live.{Live}
 use Rattle.vl_oracle.specs.LiveTickets.{LiveTickets, begun, ended, free_ticket}
 use Rattle.vl_oracle.specs.declared.begin_fail.BeginFail.{BeginFail}
 use Rattle.vl_pins.specs.Pins.{ArePinsOf, raised}

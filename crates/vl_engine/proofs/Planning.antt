@@ -15,29 +15,29 @@ use Rattle.vl_disk.specs.declared.writer.Writer.{Ghosts as Writers}
 use Rattle.vl_engine.specs.Lent.{AreLent as AreLentTo, Opens}
 use Rattle.vl_engine.specs.Merging.{FitsReaders, IsJustOpen, IsMergeFor, IsMergeOf, StandsOpen}
 use Rattle.vl_engine.specs.Planning.{IsChosen, begins}
-use Rattle.vl_core.specs.Pointed.{layout_logs}
-use Rattle.vl_core.specs.Represents.{Represents, StandsFor}
-use Rattle.vl_core.specs.MayStep.{Fits}
-use Rattle.vl_core.specs.declared.kept.Core.{Core}
+use Rattle.vl_engine_laws.specs.Pointed.{layout_logs}
+use Rattle.vl_engine_laws.specs.Represents.{Represents, StandsFor}
+use Rattle.vl_engine_laws.specs.MayStep.{Fits}
+use Rattle.vl_engine_laws.specs.declared.kept.Core.{Core}
 use Rattle.vl_engine.specs.declared.open.OpenMerge.{OpenMerge}
-use Rattle.vl_core.specs.laws.AsideLaws.{same_fits, same_represents, same_stands}
-use Rattle.vl_core.specs.laws.PlanSources.{IsPart, inputs_part, none_part}
+use Rattle.vl_engine_laws.specs.laws.AsideLaws.{same_fits, same_represents, same_stands}
+use Rattle.vl_engine_laws.specs.laws.PlanSources.{IsPart, inputs_part, none_part}
 use Rattle.vl_engine.specs.laws.PlannedJobs.{job_is, levels_are}
-use Rattle.vl_layout.specs.Decides.{Answered, Decides, as_before, no_effects}
-use Rattle.vl_layout.specs.Jobs.{AreLent, Made, lent_numbers, loose}
-use Rattle.vl_layout.specs.Levels.{due_from, first_into, has_point, inputs_at}
-use Rattle.vl_layout.specs.Ruling.{Ruling, pin_of}
-use Rattle.vl_layout.specs.Rulings.Abandon.{abandon_ruling}
-use Rattle.vl_layout.specs.Rulings.Drain.{drain_of, drain_ruling, drain_unless}
-use Rattle.vl_layout.specs.Rulings.Plan.{job_of, plan_of, plan_ruling, plan_unless, planned, with_job}
-use Rattle.vl_layout.specs.Sources.{numbers_of, tables}
-use Rattle.vl_layout.specs.Tidy.{IsRuledTidy, IsTidy}
-use Rattle.vl_layout.specs.declared.job.Job.{Job}
-use Rattle.vl_layout.specs.declared.job.OpenJob.{OpenJob}
-use Rattle.vl_layout.specs.declared.job.Target.TheVariants.{InPlace, Level}
-use Rattle.vl_layout.specs.declared.layout.Layout.{Layout}
-use Rattle.vl_layout.specs.declared.table.Table as laid
-use Rattle.vl_layout_laws.specs.laws.TidyRulings.{abandon_tidy, drain_tidy, plan_tidy}
+use Rattle.vl_engine_model.specs.Decides.{Answered, Decides, as_before, no_effects}
+use Rattle.vl_engine_model.specs.Jobs.{AreLent, Made, lent_numbers, loose}
+use Rattle.vl_engine_model.specs.Levels.{due_from, first_into, has_point, inputs_at}
+use Rattle.vl_engine_model.specs.Ruling.{Ruling, pin_of}
+use Rattle.vl_engine_model.specs.Rulings.Abandon.{abandon_ruling}
+use Rattle.vl_engine_model.specs.Rulings.Drain.{drain_of, drain_ruling, drain_unless}
+use Rattle.vl_engine_model.specs.Rulings.Plan.{job_of, plan_of, plan_ruling, plan_unless, planned, with_job}
+use Rattle.vl_engine_model.specs.Sources.{numbers_of, tables}
+use Rattle.vl_engine_model.specs.Tidy.{IsRuledTidy, IsTidy}
+use Rattle.vl_engine_model.specs.declared.job.Job.{Job}
+use Rattle.vl_engine_model.specs.declared.job.OpenJob.{OpenJob}
+use Rattle.vl_engine_model.specs.declared.job.Target.TheVariants.{InPlace, Level}
+use Rattle.vl_engine_model.specs.declared.layout.Layout.{Layout}
+use Rattle.vl_engine_model.specs.declared.table.Table as laid
+use Rattle.vl_engine_model_laws.specs.laws.TidyRulings.{abandon_tidy, drain_tidy, plan_tidy}
 use Rattle.vl_model.specs.History.{History}
 use Rattle.vl_version.specs.Bases as bases
 use Rattle.vl_version.specs.declared.base.Base.{Base}

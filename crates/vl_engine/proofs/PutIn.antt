@@ -18,11 +18,11 @@ use Rattle.vl_compact.specs.declared.files.Synced.{Synced}
 use Rattle.vl_compact.specs.declared.ready.ReadyLevels.{ReadyLevels}
 use Rattle.vl_engine.proofs.Fitting.{fit_for, fit_halted}
 use Rattle.vl_engine.proofs.KeptBy.{files_in_part, files_switched, fit_by}
-use Rattle.vl_core.specs.Fit.{IsFitFor}
+use Rattle.vl_engine_laws.specs.Fit.{IsFitFor}
 use Rattle.vl_engine.specs.Installing.{InstallsAll, StopsInstalling, StopsSwitching}
 use Rattle.vl_engine.specs.Lent.{AreLent}
 use Rattle.vl_engine.specs.Taking.{StopsTaking, Takes, file_of_table, with_files}
-use Rattle.vl_core.specs.declared.kept.Core.{Core}
+use Rattle.vl_engine_laws.specs.declared.kept.Core.{Core}
 use Rattle.vl_manifest.specs.Switching.{switched}
 
 -- ---- no merge is open

@@ -2,17 +2,17 @@
 use Rattle.std.specs.Prelude.{◌≡◌, ℕ, ◌+◌, Bool, true, false, not, nat_lt, if◌then◌else◌, List, [], ◌∷◌, Option, None, Some, refl}
 use Rattle.std.specs.List.{AllByRecursion, filter}
 use Rattle.std.proofs.Common.{sym, subst, inl, inr}
-use Rattle.vl_core.specs.Begun.{as_led, layout_begun, led_below}
-use Rattle.vl_core.specs.Files.{IsLogFile}
-use Rattle.vl_core.specs.Passing.{AreReadable}
-use Rattle.vl_core.specs.Shown.{HasFramedAmong, Shown}
-use Rattle.vl_core.specs.laws.FileLaws.{all_filtered, all_more}
+use Rattle.vl_engine_laws.specs.Begun.{as_led, layout_begun, led_below}
+use Rattle.vl_engine_laws.specs.Files.{IsLogFile}
+use Rattle.vl_engine_laws.specs.Passing.{AreReadable}
+use Rattle.vl_engine_laws.specs.Shown.{HasFramedAmong, Shown}
+use Rattle.vl_engine_laws.specs.laws.FileLaws.{all_filtered, all_more}
 use Rattle.vl_disk.specs.Crash.{Image}
 use Rattle.vl_frame.specs.Runs.{HasFrame}
-use Rattle.vl_layout.specs.Logs.{new_segment}
-use Rattle.vl_layout.specs.Sources.{oldest}
-use Rattle.vl_layout.specs.Start.{has_frames}
-use Rattle.vl_layout.specs.declared.segment.Segment.{Segment}
+use Rattle.vl_engine_model.specs.Logs.{new_segment}
+use Rattle.vl_engine_model.specs.Sources.{oldest}
+use Rattle.vl_engine_model.specs.Start.{has_frames}
+use Rattle.vl_engine_model.specs.declared.segment.Segment.{Segment}
 use Rattle.vl_model.specs.History.{History, last_number}
 use Rattle.vl_model.specs.declared.log_frame.LogFrame.{LogFrame}
 use Rattle.vl_recover.specs.opening.Answers.{Finds, and_made, as_segments, last_format, logs_then}

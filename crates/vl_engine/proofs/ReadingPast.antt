@@ -5,12 +5,12 @@ use Rattle.std.specs.Prelude.{◌==◌, nat_le, nat_lt, if◌then◌else◌, len
 use Rattle.vl_disk.specs.Faults.{HasCause}
 use Rattle.vl_disk.specs.declared.name.Name.{Name}
 use Rattle.vl_engine.specs.Past.{IsWithin, ReadsPast, ShowsPast, as_at_fail, as_failed_at, beginning, if_above}
-use Rattle.vl_core.specs.LiesOver.{IsInMemory}
+use Rattle.vl_engine_laws.specs.LiesOver.{IsInMemory}
 use Rattle.vl_engine.specs.declared.fails.AtFail.{AtFail}
 use Rattle.vl_engine.specs.declared.fails.AtFail.TheVariants as why
 use Rattle.vl_engine.specs.declared.past.Past.{Past}
 use Rattle.vl_engine.specs.laws.PastLaws.{above_more}
-use Rattle.vl_layout.specs.AtAnswer.{Ahead, AtAnswer, Dropped, EmptyKey, Found, KeyTooLong, at_answer, at_answer_by}
+use Rattle.vl_engine_model.specs.AtAnswer.{Ahead, AtAnswer, Dropped, EmptyKey, Found, KeyTooLong, at_answer, at_answer_by}
 use Rattle.vl_model.specs.History.{History, value_at}
 use Rattle.vl_model.specs.Keys.{Stored}
 use Rattle.vl_model.specs.Limits.{max_key_bytes}
@@ -29,8 +29,8 @@ use Rattle.vl_version.specs.Faults.{Failed}
 use Rattle.vl_version.specs.Near.{AreNear}
 use Rattle.vl_version.specs.Past.{IsVersion, SeeksVersion}
 use Rattle.vl_version.specs.Sources.{HasEntries, in_memory, tables_in}
-use Rattle.vl_version.specs.declared.fault.ReadFault.{ReadFault as VersionFault}
-use Rattle.vl_version.specs.declared.fault.ReadFault.TheVariants as fault
+use Rattle.vl_disk.specs.declared.read_fault.ReadFault.{ReadFault as VersionFault}
+use Rattle.vl_disk.specs.declared.read_fault.ReadFault.TheVariants as fault
 use Rattle.vl_version.specs.declared.version.Version.{Version}
 
 -- ---- the least number

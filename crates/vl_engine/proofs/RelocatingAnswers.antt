@@ -1,7 +1,7 @@
 -- What is promised of some answers of a relocation, by what it came to.
 use Rattle.std.specs.Prelude.{◌≡◌, ℕ, List, Option, Result, Ok, Err, IsTrue}
 use Rattle.std.proofs.Common.{subst, sym}
-use Rattle.vl_core.specs.Writing.{StopsWriting}
+use Rattle.vl_engine_laws.specs.Writing.{StopsWriting}
 use Rattle.vl_disk.specs.declared.name.Name.TheVariants as names
 use Rattle.vl_disk.specs.declared.name.Name.{Name}
 use Rattle.vl_disk.specs.declared.watched.Watched.{Ghosts}
@@ -10,10 +10,10 @@ use Rattle.vl_engine.proofs.RelocatingTotals.{failed_by, stopped_by}
 use Rattle.vl_engine.specs.Relocating.{At, IsDamaged, IsMovable, IsOfPass, IsTableAmong, RelocatesAs}
 use Rattle.vl_engine.specs.declared.fails.MoveFail.TheVariants as fails
 use Rattle.vl_engine.specs.declared.fails.MoveFail.{MoveFail}
-use Rattle.vl_layout.specs.Relocation as layout
-use Rattle.vl_layout.specs.Relocation.{Candidate, moved_of}
-use Rattle.vl_layout.specs.Sources.{sources}
-use Rattle.vl_layout.specs.declared.layout.Layout.{Layout}
+use Rattle.vl_engine_model.specs.Relocation as layout
+use Rattle.vl_engine_model.specs.Relocation.{Candidate, moved_of}
+use Rattle.vl_engine_model.specs.Sources.{sources}
+use Rattle.vl_engine_model.specs.declared.layout.Layout.{Layout}
 use Rattle.vl_model.specs.Formats.{log_format}
 use Rattle.vl_model.specs.History.{History, last_number}
 use Rattle.vl_model.specs.declared.log_frame.LogFrame.TheVariants.{Relocated}

@@ -4,9 +4,9 @@ use Rattle.std.specs.Prelude.{◌≡◌, ℕ, zero, suc, ◌+◌, ◌++◌, List
 use Rattle.std.proofs.Common.{◌<◌, ◌≤◌, ap, arith, get_or, sym, ◌∙◌}
 use Rattle.std.proofs.lemmas.List.Sums.{sum_by-cons}
 use Rattle.vl_engine.specs.Relocating.{move_entries_of, moved_entry}
-use Rattle.vl_core.specs.MoveFacts.{move_entries}
+use Rattle.vl_engine_laws.specs.MoveFacts.{move_entries}
 use Rattle.vl_front.specs.declared.front.Front.{Front}
-use Rattle.vl_layout.specs.Logs.{record_entry, relocated_records}
+use Rattle.vl_engine_model.specs.Logs.{record_entry, relocated_records}
 use Rattle.vl_model.specs.Formats.{log_format}
 use Rattle.vl_model.specs.Frames.{moved_length}
 use Rattle.vl_model.specs.declared.change.Change.TheVariants.{Set}

@@ -5,22 +5,22 @@ use Rattle.std.specs.List.{AllByRecursion, filter}
 use Rattle.std.specs.Option.{option_map}
 use Rattle.std.proofs.Common.{sym, ap, subst, ◌∙◌, cond, arith}
 use Rattle.std.proofs.lemmas.Bool.Decides.{nat_tests}
-use Rattle.vl_core.specs.Carries.{Carries}
-use Rattle.vl_core.specs.MayStep.{Fits}
-use Rattle.vl_core.specs.MoveFacts.{HasMoved, move_length, move_log}
-use Rattle.vl_core.specs.Pointed.{layout_logs}
-use Rattle.vl_core.specs.Represents.{Fronts, Represents, file_of}
-use Rattle.vl_core.specs.declared.kept.Core.{Core}
-use Rattle.vl_core.specs.laws.Carrying.{IsWatched}
-use Rattle.vl_core.specs.laws.MovedLaws.{HaveEach, moved_apart, moved_up_to}
-use Rattle.vl_core.specs.laws.MovedSettled.{settled_moved, settled_none}
-use Rattle.vl_core.specs.laws.RelocateCarrying.{carries_damaged_move, carries_failed_move, carries_moved, carries_refused_move}
-use Rattle.vl_core.specs.laws.RelocateCarrying.{carries_short_move, carries_unread_move}
-use Rattle.vl_core.specs.laws.RelocateFits.{fits_relocated}
-use Rattle.vl_core.specs.laws.RelocateRulings.{IsMoving, can_move, halted_ruled, is_full, none_ruled, runs, used_up}
-use Rattle.vl_core.specs.laws.RelocateStanding.{fronts_moved, fronts_stopped, stands_moved, stands_stopped}
-use Rattle.vl_core.specs.laws.SourcedLaws.{laid_marked}
-use Rattle.vl_core.specs.laws.StillLaws.{there_now}
+use Rattle.vl_engine_laws.specs.Carries.{Carries}
+use Rattle.vl_engine_laws.specs.MayStep.{Fits}
+use Rattle.vl_engine_laws.specs.MoveFacts.{HasMoved, move_length, move_log}
+use Rattle.vl_engine_laws.specs.Pointed.{layout_logs}
+use Rattle.vl_engine_laws.specs.Represents.{Fronts, Represents, file_of}
+use Rattle.vl_engine_laws.specs.declared.kept.Core.{Core}
+use Rattle.vl_engine_laws.specs.laws.Carrying.{IsWatched}
+use Rattle.vl_engine_laws.specs.laws.MovedLaws.{HaveEach, moved_apart, moved_up_to}
+use Rattle.vl_engine_laws.specs.laws.MovedSettled.{settled_moved, settled_none}
+use Rattle.vl_engine_laws.specs.laws.RelocateCarrying.{carries_damaged_move, carries_failed_move, carries_moved, carries_refused_move}
+use Rattle.vl_engine_laws.specs.laws.RelocateCarrying.{carries_short_move, carries_unread_move}
+use Rattle.vl_engine_laws.specs.laws.RelocateFits.{fits_relocated}
+use Rattle.vl_engine_laws.specs.laws.RelocateRulings.{IsMoving, can_move, halted_ruled, is_full, none_ruled, runs, used_up}
+use Rattle.vl_engine_laws.specs.laws.RelocateStanding.{fronts_moved, fronts_stopped, stands_moved, stands_stopped}
+use Rattle.vl_engine_laws.specs.laws.SourcedLaws.{laid_marked}
+use Rattle.vl_engine_laws.specs.laws.StillLaws.{there_now}
 use Rattle.vl_disk.specs.Calls.{ChangesNothing}
 use Rattle.vl_disk.specs.Disk.{Stands}
 use Rattle.vl_disk.specs.DiskState.{DiskState}
@@ -37,18 +37,18 @@ use Rattle.vl_engine.specs.Relocating.{move_effects, move_outcome}
 use Rattle.vl_engine.specs.declared.fails.MoveFail.TheVariants as fails
 use Rattle.vl_engine.specs.declared.fails.MoveFail.{MoveFail}
 use Rattle.vl_engine.specs.declared.open.OpenMerge.{OpenMerge}
-use Rattle.vl_layout.specs.Decides.{Answered, Damaged, Decides, Failed, NoMemory, Otherwise, as_before, effects_of, no_effects}
-use Rattle.vl_layout.specs.Logs.{memtable}
-use Rattle.vl_layout.specs.Relocation as layout
-use Rattle.vl_layout.specs.Relocation.{Candidate, moved_of}
-use Rattle.vl_layout.specs.Ruling.{Ruling, halted_at, leaving}
-use Rattle.vl_layout.specs.Rulings.Relocate as answers
-use Rattle.vl_layout.specs.Rulings.Relocate.{MoveAnswer, Moves, moves_at, relocate_ruling, relocated, with_moves}
-use Rattle.vl_layout.specs.Shown.{IsThere}
-use Rattle.vl_layout.specs.Sources.{sources}
-use Rattle.vl_layout.specs.declared.job.OpenJob.{OpenJob}
-use Rattle.vl_layout.specs.declared.layout.Layout.{Layout}
-use Rattle.vl_layout_laws.specs.Passes.{IsSettled}
+use Rattle.vl_engine_model.specs.Decides.{Answered, Damaged, Decides, Failed, NoMemory, Otherwise, as_before, effects_of, no_effects}
+use Rattle.vl_engine_model.specs.Logs.{memtable}
+use Rattle.vl_engine_model.specs.Relocation as layout
+use Rattle.vl_engine_model.specs.Relocation.{Candidate, moved_of}
+use Rattle.vl_engine_model.specs.Ruling.{Ruling, halted_at, leaving}
+use Rattle.vl_engine_model.specs.Rulings.Relocate as answers
+use Rattle.vl_engine_model.specs.Rulings.Relocate.{MoveAnswer, Moves, moves_at, relocate_ruling, relocated, with_moves}
+use Rattle.vl_engine_model.specs.Shown.{IsThere}
+use Rattle.vl_engine_model.specs.Sources.{sources}
+use Rattle.vl_engine_model.specs.declared.job.OpenJob.{OpenJob}
+use Rattle.vl_engine_model.specs.declared.layout.Layout.{Layout}
+use Rattle.vl_engine_model_laws.specs.Passes.{IsSettled}
 use Rattle.vl_model.specs.Conflicts.{Named}
 use Rattle.vl_model.specs.History.{History, last_number}
 use Rattle.vl_model.specs.Winners.{exact}

@@ -4,15 +4,15 @@ use Rattle.std.specs.List.{All, AllByRecursion, filter}
 use Rattle.std.specs.Prelude.{true, false, Bool, ◌≡◌, ◌&&◌, ◌≤◌, ℕ, List, [], ◌∷◌, length, refl, None, Option, Some, is_none, nat_le}
 use Rattle.std.specs.Prelude.{Contains, IfErr, Result, Ok, Err, if◌then◌else◌, map}
 use Rattle.std.specs.Result.{IsErrAnd}
-use Rattle.vl_collect.specs.declared.fault.PassFault.{PassFault}
+use Rattle.vl_disk.specs.declared.read_fault.ReadFault.{ReadFault}
 use Rattle.vl_memtable.specs.Contents.{Contents}
 use Rattle.std.proofs.Common.{ap, arith, subst, sym, ◌∙◌}
 use Rattle.std.proofs.lemmas.Bool.Decides.{nat_tests}
 use Rattle.vl_collect.specs.Batches.{MayBeMoved}
-use Rattle.vl_core.specs.declared.kept.Core.{Core}
+use Rattle.vl_engine_laws.specs.declared.kept.Core.{Core}
 use Rattle.vl_collect.specs.Passing.{HasEntries}
 use Rattle.vl_engine.specs.Relocating.{Finds, MayMove, may_add}
-use Rattle.vl_layout.specs.Relocation.{Candidate, moved_of}
+use Rattle.vl_engine_model.specs.Relocation.{Candidate, moved_of}
 use Rattle.vl_model.specs.Formats.{log_format}
 use Rattle.vl_model.specs.Winners.{exact}
 use Rattle.vl_model.specs.declared.entry.Entry.{Entry}
@@ -142,7 +142,7 @@ kept_by {H} core version same active is last last_is found moved kept =
     ∙ ap (λ (n : ℕ). filter (may_add core.version.active.entries n) found) last_is
 
 -- a fault that is passed on
-pub passed_on : {T : Type 0} (P : PassFault → Type 0) (result : Result T PassFault) (fault : PassFault)
+pub passed_on : {T : Type 0} (P : ReadFault → Type 0) (result : Result T ReadFault) (fault : ReadFault)
     → IsErrAnd result (λ e. e ≡ fault) → P fault → IfErr result P
 passed_on P (Ok answer) fault failed holds = absurd failed
 passed_on P (Err e) fault failed holds = subst P (sym failed) holds

@@ -4,25 +4,24 @@ use Rattle.std.specs.List.{AllByRecursion, slice_get}
 use Rattle.std.proofs.Common.{sym, subst, ◌∙◌, ⊎_elim}
 use Rattle.std.proofs.lemmas.List.Elements.{All-contains, All-from_recursion, Contains-get_or}
 use Rattle.std.proofs.lemmas.Option.{get_or_from_slice_get, slice_get_within}
-use Rattle.vl_collect.specs.Faults.{IsTheirs, LacksMemory, MayWhere, of_sources}
-use Rattle.vl_collect.specs.declared.fault.PassFault.TheVariants as faults
-use Rattle.vl_collect.specs.declared.fault.PassFault.{PassFault}
-use Rattle.vl_block.specs.Bytes.{table_bytes}
-use Rattle.vl_core.specs.laws.LaidLaws.{laid_entries}
+use Rattle.vl_collect.specs.Faults.{IsTheirs, LacksMemory, MayWhere}
+use Rattle.vl_disk.specs.declared.read_fault.ReadFault.TheVariants as faults
+use Rattle.vl_disk.specs.declared.read_fault.ReadFault.{ReadFault}
+use Rattle.vl_table.specs.body.Bytes.{table_bytes}
+use Rattle.vl_engine_laws.specs.laws.LaidLaws.{laid_entries}
 use Rattle.vl_disk.specs.declared.name.Name.{Name}
 use Rattle.vl_disk.specs.declared.watched.Watched.{Ghosts}
 use Rattle.vl_engine.specs.Relocating.{At, HasFailedToRead, FailsAt, IsOfPass, IsTableAmong}
-use Rattle.vl_layout.specs.Relocation as layout
-use Rattle.vl_layout.specs.Relocation.{Candidate}
-use Rattle.vl_layout.specs.declared.layout.Layout.{Layout}
+use Rattle.vl_engine_model.specs.Relocation as layout
+use Rattle.vl_engine_model.specs.Relocation.{Candidate}
+use Rattle.vl_engine_model.specs.declared.layout.Layout.{Layout}
 use Rattle.vl_model.specs.History.{History}
 use Rattle.vl_model.specs.declared.entry.Entry.{Entry}
 use Rattle.vl_seglog.specs.declared.sealed.SealedLog.{SealedLog}
 use Rattle.vl_table.specs.CursorParts.{MayFailOn, is_disk_fault}
 use Rattle.vl_table.specs.OfTables.{AreOf}
 use Rattle.vl_table.specs.Tables.{IsOf, number_of, shape_of}
-use Rattle.vl_table.specs.declared.fault.TableFault.TheVariants as table
-use Rattle.vl_table.specs.declared.fault.TableFault.{TableFault}
+use Rattle.vl_disk.specs.declared.read_fault.ReadFault.TheVariants as table
 use Rattle.vl_table.specs.declared.table.Table.{Table}
 use Rattle.vl_table.specs.laws.TrueBlocks.{no_bad_block}
 use Rattle.vl_version.specs.Bases.{Fits}
@@ -35,7 +34,7 @@ here xs i x at = subst (Contains xs) (get_or_from_slice_get xs i x x at) (Contai
 
 module _ {H : Type 0} (bytes : H → Option (List ℕ)) (ts : List (Table H)) where
   -- a disk's fault names a table,
-  named_so : (name : Name) (told : TableFault) → faults.Disk name ≡ of_sources told → MayFailOn bytes ts told → IsTableAmong ts name
+  named_so : (name : Name) (told : ReadFault) → faults.Disk name ≡ told → MayFailOn bytes ts told → IsTableAmong ts name
   named_so name table.NoMemory is may = absurd cc
   named_so name (table.Disk n) is (i, t, at, named) =
       let same : n ≡ name = cc in
@@ -50,8 +49,8 @@ module _ {H : Type 0} (bytes : H → Option (List ℕ)) (ts : List (Table H)) wh
   each_is (es ∷ tabled) (t ∷ held) are = ((es, are.0), each_is tabled held are.1)
 
   -- and none is damaged where they are true.
-  sound_so : (tabled : List (List Entry)) → AreOf bytes ts tabled → (name : Name) (place : ℕ) (told : TableFault)
-      → faults.Damaged name place ≡ of_sources told → MayFailOn bytes ts told → ⊥
+  sound_so : (tabled : List (List Entry)) → AreOf bytes ts tabled → (name : Name) (place : ℕ) (told : ReadFault)
+      → faults.Damaged name place ≡ told → MayFailOn bytes ts told → ⊥
   sound_so tabled are name place table.NoMemory is may = absurd cc
   sound_so tabled are name place (table.Disk n) is may = absurd cc
   sound_so tabled are name place (table.Damaged n at) is (i, t, there, named, bad) =
@@ -62,9 +61,9 @@ module _ {H : Type 0} (bytes : H → Option (List ℕ)) (ts : List (Table H)) wh
 module _ {D H R : Type 0} (g : Ghosts D) (bytes : H → Option (List ℕ)) (faults_of : R → ℕ) (old new : At D H R) (segment : ℕ)
     (batch : List Candidate) where
   -- a fault that isn't want of memory is one that the sources may have, where what is read with fits them
-  had : (fault : PassFault) → (fault ≡ faults.NoMemory → ⊥) → FailsAt g bytes faults_of old new segment batch fault
+  had : (fault : ReadFault) → (fault ≡ faults.NoMemory → ⊥) → FailsAt g bytes faults_of old new segment batch fault
       → Fits bytes old.core.version old.looks
-      → (told : TableFault) × (fault ≡ of_sources told) × MayFailOn bytes (tables_in old.core.version) told
+      → (told : ReadFault) × (fault ≡ told) × MayFailOn bytes (tables_in old.core.version) told
   had fault some fails fits = ⊎_elim
       (λ (lacks : LacksMemory (faults_of old.looks.reader) (faults_of new.looks.reader) fault). absurd (some lacks.is))
       (λ (theirs : IsTheirs is_disk_fault

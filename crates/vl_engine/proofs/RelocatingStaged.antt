@@ -1,10 +1,10 @@
 -- The entries of moved records, as they are put in order in front of the active memtable's.
 use Rattle.std.specs.Prelude.{◌≡◌, ◌≤◌, ◌+◌, ◌++◌, true, List, length, None}
 use Rattle.std.proofs.Common.{arith}
-use Rattle.vl_core.specs.Known.{are_known}
-use Rattle.vl_core.specs.MoveFacts.{move_entries}
-use Rattle.vl_core.specs.declared.kept.Core.{Core}
-use Rattle.vl_core.specs.laws.MovedLaws.{entries_count, entries_have, moved_known, sorted_new, sorted_some}
+use Rattle.vl_engine_laws.specs.Known.{are_known}
+use Rattle.vl_engine_laws.specs.MoveFacts.{move_entries}
+use Rattle.vl_engine_laws.specs.declared.kept.Core.{Core}
+use Rattle.vl_engine_laws.specs.laws.MovedLaws.{entries_count, entries_have, moved_known, sorted_new, sorted_some}
 use Rattle.vl_engine.specs.Relocating.{MayMove}
 use Rattle.vl_front.specs.declared.front.Front.{Front}
 use Rattle.vl_memtable.specs.Contents.{IsNewTo}
@@ -13,7 +13,7 @@ use Rattle.vl_model.specs.Formats.{log_format}
 use Rattle.vl_model.specs.Winners.{exact}
 use Rattle.vl_model.specs.declared.entry.Entry.{Entry}
 use Rattle.vl_model.specs.declared.log_frame.Moved.{Moved}
-use Rattle.vl_run.specs.laws.OrderLaws.{in_order-front}
+use Rattle.vl_model.specs.laws.OrderLaws.{in_order-front}
 
 module _ {H : Type 0} (core : Core H) (moved : List Moved) (may : MayMove core moved) where
   -- In order they are new to the active memtable,

@@ -3,11 +3,11 @@ use Rattle.std.specs.Prelude.{◌≡◌, ◌≤◌, ℕ, zero, suc, ◌+◌, Lis
 use Rattle.std.specs.Prelude.{IsTrue, refl}
 use Rattle.std.specs.Option.{option_map}
 use Rattle.std.proofs.Common.{sym, ap, subst, ◌∙◌, arith, ⊎_elim}
-use Rattle.vl_core.specs.Carries.{HasSameFiles, SameFiles, StaysUntold}
-use Rattle.vl_core.specs.MoveFacts.{HandsMove, move_frame, move_log}
-use Rattle.vl_core.specs.Writing.{StopsWriting, WhileWriting, at_append, at_sync, written}
-use Rattle.vl_core.specs.declared.kept.Core.{Core}
-use Rattle.vl_core.specs.laws.Carrying.{IsWatched}
+use Rattle.vl_engine_laws.specs.Carries.{HasSameFiles, SameFiles, StaysUntold}
+use Rattle.vl_engine_laws.specs.MoveFacts.{HandsMove, move_frame, move_log}
+use Rattle.vl_engine_laws.specs.Writing.{StopsWriting, WhileWriting, at_append, at_sync, written}
+use Rattle.vl_engine_laws.specs.declared.kept.Core.{Core}
+use Rattle.vl_engine_laws.specs.laws.Carrying.{IsWatched}
 use Rattle.vl_disk.specs.Calls.{ChangesNothing}
 use Rattle.vl_disk.specs.Crash.{WhileAppending, WhileSyncing}
 use Rattle.vl_disk.specs.DiskState.{DiskState, appended, lengthened, synced}
@@ -24,11 +24,11 @@ use Rattle.vl_engine.specs.Relocating.{At, IsMovable, IsOfPass, LeavesAll, MoveL
 use Rattle.vl_engine.specs.Relocating.{RelocatesAs, batch_back, move_effects, moved_version}
 use Rattle.vl_engine.specs.declared.fails.MoveFail.TheVariants as fails
 use Rattle.vl_engine.specs.declared.fails.MoveFail.{MoveFail}
-use Rattle.vl_layout.specs.Relocation as layout
-use Rattle.vl_layout.specs.Relocation.{Candidate, moved_of}
-use Rattle.vl_layout.specs.Rulings.Relocate.{moves_at}
-use Rattle.vl_layout.specs.Sources.{sources}
-use Rattle.vl_layout.specs.declared.layout.Layout.{Layout}
+use Rattle.vl_engine_model.specs.Relocation as layout
+use Rattle.vl_engine_model.specs.Relocation.{Candidate, moved_of}
+use Rattle.vl_engine_model.specs.Rulings.Relocate.{moves_at}
+use Rattle.vl_engine_model.specs.Sources.{sources}
+use Rattle.vl_engine_model.specs.declared.layout.Layout.{Layout}
 use Rattle.vl_model.specs.Formats.{log_format}
 use Rattle.vl_model.specs.History.{History, last_number}
 use Rattle.vl_model.specs.declared.log_frame.LogFrame.TheVariants.{Relocated}

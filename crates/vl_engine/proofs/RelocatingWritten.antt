@@ -4,10 +4,10 @@ use Rattle.std.specs.Prelude.{Some, Ok, All, Bool, false, ◌==◌, ◌≤◌, �
 use Rattle.std.specs.Option.{ForSome}
 use Rattle.std.proofs.Common.{ap, arith, subst, sym, ◌∙◌}
 use Rattle.std.proofs.lemmas.Bool.Decides.{nat_tests}
-use Rattle.vl_core.specs.Fit.{IsFitFor}
-use Rattle.vl_core.specs.MoveFacts.{HandsMove, move_frame, move_length, move_log}
-use Rattle.vl_core.specs.Writing.{StopsWriting, WhileWriting, written}
-use Rattle.vl_core.specs.declared.kept.Core.{Core}
+use Rattle.vl_engine_laws.specs.Fit.{IsFitFor}
+use Rattle.vl_engine_laws.specs.MoveFacts.{HandsMove, move_frame, move_length, move_log}
+use Rattle.vl_engine_laws.specs.Writing.{StopsWriting, WhileWriting, written}
+use Rattle.vl_engine_laws.specs.declared.kept.Core.{Core}
 use Rattle.vl_disk.specs.Calls.{ChangesNothing}
 use Rattle.vl_disk.specs.Disk.{IsChangedBy}
 use Rattle.vl_disk.specs.DiskState.{DiskState}
@@ -21,7 +21,7 @@ use Rattle.vl_engine.specs.Lent.{AreLent, IsLent, LeavesLent}
 use Rattle.vl_engine.specs.Relocating.{At, HasFound, HasRelocated, NotesMoves, RelocatesAs, WritesMove}
 use Rattle.vl_engine.specs.declared.open.OpenMerge.{OpenMerge}
 use Rattle.vl_front.specs.declared.front.Front.{Front}
-use Rattle.vl_layout.specs.Relocation.{Candidate}
+use Rattle.vl_engine_model.specs.Relocation.{Candidate}
 use Rattle.vl_model.specs.Conflicts.{Named}
 use Rattle.vl_model.specs.Formats.{log_format}
 use Rattle.vl_model.specs.Limits.{max_version_number}

@@ -13,36 +13,36 @@ use Rattle.vl_disk.specs.Name.{IsNumbered}
 use Rattle.vl_disk.specs.declared.name.Name.TheVariants as names
 use Rattle.vl_disk.specs.declared.name.Name.{Name}
 use Rattle.vl_disk.specs.declared.watched.Watched.{Ghosts}
-use Rattle.vl_core.specs.laws.Carrying.{IsWatched, looked}
+use Rattle.vl_engine_laws.specs.laws.Carrying.{IsWatched, looked}
 use Rattle.vl_engine.proofs.Committing.{decides_answered, decides_failed, decides_short}
 use Rattle.vl_engine.proofs.Leaving.{base_numbers, making_elsewhere, manifest_held}
-use Rattle.vl_core.specs.laws.Represented.{represents_halted}
-use Rattle.vl_core.specs.laws.Standing.{fronts_halted, stands_halted}
-use Rattle.vl_core.specs.Carries.{Carries, CrashesShow}
-use Rattle.vl_core.specs.Held.{Base, Holds}
-use Rattle.vl_core.specs.Laid.{HasLayout}
-use Rattle.vl_core.specs.Pointed.{bytes_of_log, layout_logs}
-use Rattle.vl_core.specs.Represents.{Fronts, IsFront, IsHeld, Represents, StandsFor, file_of}
-use Rattle.vl_core.specs.RotateFacts.{BeginsLog, HasActive, IsNextBack, IsNextVersion, IsSameBack, IsSameCore, next_header, next_name}
-use Rattle.vl_core.specs.Shown.{LeavesBetween}
-use Rattle.vl_core.specs.MayStep.{LeavesNumbers}
-use Rattle.vl_core.specs.declared.kept.Core.{Core}
-use Rattle.vl_core.specs.laws.HeldLaws.{held_opens_again, held_shown}
-use Rattle.vl_core.specs.laws.KeptLaws.{begun_kept, table_log}
-use Rattle.vl_core.specs.laws.LaidRotate.{laid_rotated, rotated_tidy}
-use Rattle.vl_core.specs.laws.RotateLaws.{rotate_base, rotate_holds, rotate_leaves, rotate_opens_again, rotated_base}
-use Rattle.vl_core.specs.laws.RotateRulings.{halted_ruled, idle_ruled, is_filled, log_used_up, made_ruled, rotate_made, version_used_up}
-use Rattle.vl_core.specs.laws.RotateWaiting.{rotate_waiting}
-use Rattle.vl_core.specs.laws.ShownLaws.{between_itself}
-use Rattle.vl_core.specs.laws.SparedSteps.{spares_rotated}
+use Rattle.vl_engine_laws.specs.laws.Represented.{represents_halted}
+use Rattle.vl_engine_laws.specs.laws.Standing.{fronts_halted, stands_halted}
+use Rattle.vl_engine_laws.specs.Carries.{Carries, CrashesShow}
+use Rattle.vl_engine_laws.specs.Held.{Base, Holds}
+use Rattle.vl_engine_laws.specs.Laid.{HasLayout}
+use Rattle.vl_engine_laws.specs.Pointed.{bytes_of_log, layout_logs}
+use Rattle.vl_engine_laws.specs.Represents.{Fronts, IsFront, IsHeld, Represents, StandsFor, file_of}
+use Rattle.vl_engine_laws.specs.RotateFacts.{BeginsLog, HasActive, IsNextBack, IsNextVersion, IsSameBack, IsSameCore, next_header, next_name}
+use Rattle.vl_engine_laws.specs.Shown.{LeavesBetween}
+use Rattle.vl_engine_laws.specs.MayStep.{LeavesNumbers}
+use Rattle.vl_engine_laws.specs.declared.kept.Core.{Core}
+use Rattle.vl_engine_laws.specs.laws.HeldLaws.{held_opens_again, held_shown}
+use Rattle.vl_engine_laws.specs.laws.KeptLaws.{begun_kept, table_log}
+use Rattle.vl_engine_laws.specs.laws.LaidRotate.{laid_rotated, rotated_tidy}
+use Rattle.vl_engine_laws.specs.laws.RotateLaws.{rotate_base, rotate_holds, rotate_leaves, rotate_opens_again, rotated_base}
+use Rattle.vl_engine_laws.specs.laws.RotateRulings.{halted_ruled, idle_ruled, is_filled, log_used_up, made_ruled, rotate_made, version_used_up}
+use Rattle.vl_engine_laws.specs.laws.RotateWaiting.{rotate_waiting}
+use Rattle.vl_engine_laws.specs.laws.ShownLaws.{between_itself}
+use Rattle.vl_engine_laws.specs.laws.SparedSteps.{spares_rotated}
 use Rattle.vl_front.specs.declared.front.Front.{Front}
-use Rattle.vl_layout.specs.Decides.{Answered, Effects, Failed, NoMemory, as_before, no_effects}
-use Rattle.vl_layout.specs.Ruling.{Exhausted, Halted, Idle, Ruling, StepAnswer, Stepped, halted_at, leaving}
-use Rattle.vl_layout.specs.Rulings.Rotate.{rotate_ruling, rotated}
-use Rattle.vl_layout.specs.Start.{newest_first}
-use Rattle.vl_layout.specs.Tidy.{IsRuledTidy, IsTidy, IsTrueLog}
-use Rattle.vl_layout.specs.declared.layout.Layout.{Layout}
-use Rattle.vl_layout_laws.specs.laws.TidyRulings.{rotate_tidy}
+use Rattle.vl_engine_model.specs.Decides.{Answered, Effects, Failed, NoMemory, as_before, no_effects}
+use Rattle.vl_engine_model.specs.Ruling.{Exhausted, Halted, Idle, Ruling, StepAnswer, Stepped, halted_at, leaving}
+use Rattle.vl_engine_model.specs.Rulings.Rotate.{rotate_ruling, rotated}
+use Rattle.vl_engine_model.specs.Start.{newest_first}
+use Rattle.vl_engine_model.specs.Tidy.{IsRuledTidy, IsTidy, IsTrueLog}
+use Rattle.vl_engine_model.specs.declared.layout.Layout.{Layout}
+use Rattle.vl_engine_model_laws.specs.laws.TidyRulings.{rotate_tidy}
 use Rattle.vl_manifest.specs.declared.waiting.Waiting.{Waiting}
 use Rattle.vl_manifest.specs.declared.state.ManifestState.{ManifestState}
 use Rattle.vl_model.specs.Formats.{log_format}

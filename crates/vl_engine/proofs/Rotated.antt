@@ -7,27 +7,27 @@ use Rattle.vl_disk.specs.DiskState.{DiskState}
 use Rattle.vl_disk.specs.Faults.{after_calls}
 use Rattle.vl_disk.specs.declared.name.Name.{Name}
 use Rattle.vl_disk.specs.declared.watched.Watched.{Ghosts}
-use Rattle.vl_core.specs.laws.Carrying.{IsWatched, carries_leaving}
+use Rattle.vl_engine_laws.specs.laws.Carrying.{IsWatched, carries_leaving}
 use Rattle.vl_engine.proofs.Committing.{decides_answered, decides_failed, decides_leaving, decides_short}
 use Rattle.vl_engine.proofs.RotateSteps.{CanRotate, active_held, can_rotate, carries_rotated, carries_short}
 use Rattle.vl_engine.proofs.RotateSteps.{carries_unrotated, fronts_rotated, fronts_same, fronts_unrotated}
 use Rattle.vl_engine.proofs.RotateSteps.{ruled_halted, ruled_idle, ruled_log, ruled_made, ruled_version, running_so}
 use Rattle.vl_engine.proofs.RotateSteps.{stands_rotated, stands_same, stands_unrotated}
-use Rattle.vl_core.specs.Carries.{Carries}
-use Rattle.vl_core.specs.Represents.{Fronts, IsHeld, Represents, StandsFor, file_of}
+use Rattle.vl_engine_laws.specs.Carries.{Carries}
+use Rattle.vl_engine_laws.specs.Represents.{Fronts, IsHeld, Represents, StandsFor, file_of}
 use Rattle.vl_engine.specs.Rotating.{IsRefusedSo, RotatesAs, rotate_calls, rotate_effects}
-use Rattle.vl_core.specs.RotateFacts.{BeginsLog, HasActive, MayBegin, StopsRotating}
+use Rattle.vl_engine_laws.specs.RotateFacts.{BeginsLog, HasActive, MayBegin, StopsRotating}
 use Rattle.vl_engine.specs.Stepping.{StepFailed, StepLeavesDisk, step_outcome}
-use Rattle.vl_core.specs.MayStep.{HasNumbers}
+use Rattle.vl_engine_laws.specs.MayStep.{HasNumbers}
 use Rattle.vl_engine.specs.declared.fails.StepFail.TheVariants as fails
 use Rattle.vl_engine.specs.declared.fails.StepFail.{StepFail}
-use Rattle.vl_core.specs.declared.kept.Core.{Core}
-use Rattle.vl_core.specs.laws.RotateRulings.{rotate_made}
-use Rattle.vl_layout.specs.Decides.{Answered, Decides, Effects, Failed, NoMemory, Outcome, as_before, no_effects}
-use Rattle.vl_layout.specs.Ruling.{Exhausted, Halted, Idle, Ruling, StepAnswer, Stepped, leaving}
-use Rattle.vl_layout.specs.Rulings.Rotate.{rotate_ruling}
-use Rattle.vl_layout.specs.Tidy.{IsTrueLog}
-use Rattle.vl_layout.specs.declared.layout.Layout.{Layout}
+use Rattle.vl_engine_laws.specs.declared.kept.Core.{Core}
+use Rattle.vl_engine_laws.specs.laws.RotateRulings.{rotate_made}
+use Rattle.vl_engine_model.specs.Decides.{Answered, Decides, Effects, Failed, NoMemory, Outcome, as_before, no_effects}
+use Rattle.vl_engine_model.specs.Ruling.{Exhausted, Halted, Idle, Ruling, StepAnswer, Stepped, leaving}
+use Rattle.vl_engine_model.specs.Rulings.Rotate.{rotate_ruling}
+use Rattle.vl_engine_model.specs.Tidy.{IsTrueLog}
+use Rattle.vl_engine_model.specs.declared.layout.Layout.{Layout}
 use Rattle.vl_manifest.specs.declared.state.ManifestState.{ManifestState}
 use Rattle.vl_model.specs.History.{History}
 use Rattle.vl_model.specs.declared.counter.Counter.TheVariants as counters

@@ -8,33 +8,33 @@ use Rattle.vl_disk.specs.Moments.{While, passes_none, past_of}
 use Rattle.vl_disk.specs.declared.name.Name.TheVariants as names
 use Rattle.vl_disk.specs.declared.name.Name.{Name}
 use Rattle.vl_disk.specs.declared.watched.Watched.{Ghosts}
-use Rattle.vl_core.specs.laws.Carrying.{IsWatched}
+use Rattle.vl_engine_laws.specs.laws.Carrying.{IsWatched}
 use Rattle.vl_engine.proofs.Committing.{accepted, carries_failed_so, carries_refused, carries_unwritten}
 use Rattle.vl_engine.proofs.Committing.{carries_written, fronts_failed, fronts_unwritten, fronts_written, next_is}
 use Rattle.vl_engine.proofs.Committing.{stands_failed, stands_unwritten, stands_written}
 use Rattle.vl_engine.proofs.Filing.{same_files, same_files_handed, stops_failed}
-use Rattle.vl_core.specs.laws.Standing.{decides_as}
+use Rattle.vl_engine_laws.specs.laws.Standing.{decides_as}
 use Rattle.vl_engine.specs.Answers.{CommitFailed, IsWritable, commit_effects, commit_outcome}
-use Rattle.vl_core.specs.Carries.{Carries, SameFiles}
-use Rattle.vl_core.specs.Represents.{Fronts, IsLive, Represents, StandsFor, file_of}
+use Rattle.vl_engine_laws.specs.Carries.{Carries, SameFiles}
+use Rattle.vl_engine_laws.specs.Represents.{Fronts, IsLive, Represents, StandsFor, file_of}
 use Rattle.vl_engine.specs.Steps.{IsUnwritten, WritesAs, log_of}
-use Rattle.vl_core.specs.Writing.{StopsWriting}
+use Rattle.vl_engine_laws.specs.Writing.{StopsWriting}
 use Rattle.vl_engine.specs.declared.engine.Done.TheVariants as done
 use Rattle.vl_engine.specs.declared.engine.Done.{Done}
 use Rattle.vl_engine.specs.declared.fails.CommitFail.TheVariants as fails
 use Rattle.vl_engine.specs.declared.fails.CommitFail.{CommitFail}
-use Rattle.vl_core.specs.declared.kept.Core.{Core}
-use Rattle.vl_core.specs.laws.LiveLaws.{floor_below}
-use Rattle.vl_core.specs.laws.RulingLaws.{ruled, ruled_so}
+use Rattle.vl_engine_laws.specs.declared.kept.Core.{Core}
+use Rattle.vl_engine_laws.specs.laws.LiveLaws.{floor_below}
+use Rattle.vl_engine_laws.specs.laws.RulingLaws.{ruled, ruled_so}
 use Rattle.vl_conflict.specs.Recent.{Remembers}
 use Rattle.vl_frame.specs.Runs.{HasFrame}
 use Rattle.vl_front.specs.Decisions.{decision_of}
 use Rattle.vl_front.specs.declared.decision.Decision.{Decision}
-use Rattle.vl_layout.specs.Decides.{Answered, Decides, Failed, Otherwise, as_before, no_effects}
-use Rattle.vl_layout.specs.Ruling.{Ruling, leaving}
-use Rattle.vl_layout.specs.Rulings.Commit.{CommitAnswer, Transaction, commit_frame, commit_lost, commit_ruling, committed}
-use Rattle.vl_layout.specs.Sources.{floor}
-use Rattle.vl_layout.specs.declared.layout.Layout.{Layout}
+use Rattle.vl_engine_model.specs.Decides.{Answered, Decides, Failed, Otherwise, as_before, no_effects}
+use Rattle.vl_engine_model.specs.Ruling.{Ruling, leaving}
+use Rattle.vl_engine_model.specs.Rulings.Commit.{CommitAnswer, Transaction, commit_frame, commit_lost, commit_ruling, committed}
+use Rattle.vl_engine_model.specs.Sources.{floor}
+use Rattle.vl_engine_model.specs.declared.layout.Layout.{Layout}
 use Rattle.vl_model.specs.Conflicts.{first_conflict}
 use Rattle.vl_model.specs.Formats.{log_format}
 use Rattle.vl_model.specs.History.{History}

@@ -13,8 +13,8 @@ use Rattle.vl_engine.specs.declared.fails.ReadFail.TheVariants as fails
 use Rattle.vl_engine.specs.declared.past.Past.{Past}
 use Rattle.vl_engine.specs.declared.txn.Txn.{Txn}
 use Rattle.vl_engine.specs.declared.view.View.{View}
-use Rattle.vl_core.specs.laws.ReadLaws.{value_led, winner_leads}
-use Rattle.vl_layout.specs.Shows.{Shows}
+use Rattle.vl_engine_laws.specs.laws.ReadLaws.{value_led, winner_leads}
+use Rattle.vl_engine_model.specs.Shows.{Shows}
 use Rattle.vl_model.specs.History.{History, contents_at, value_at, value_left}
 use Rattle.vl_model.specs.Keys.{Row, Stored, Writes}
 use Rattle.vl_model.specs.Notes.{AreNotesOf}
@@ -31,8 +31,8 @@ use Rattle.vl_table.specs.declared.block_reader.BlockReader.{BlockReader}
 use Rattle.vl_version.specs.Answers.{IsAnswer, value_of}
 use Rattle.vl_version.specs.Answers as held
 use Rattle.vl_version.specs.Faults.{Failed}
-use Rattle.vl_version.specs.declared.fault.ReadFault.{ReadFault as VersionFault}
-use Rattle.vl_version.specs.declared.fault.ReadFault.TheVariants as faults
+use Rattle.vl_disk.specs.declared.read_fault.ReadFault.{ReadFault as VersionFault}
+use Rattle.vl_disk.specs.declared.read_fault.ReadFault.TheVariants as faults
 use Rattle.vl_version.specs.declared.found.Found.{Found}
 use Rattle.vl_version.specs.declared.found.Found.TheVariants as found
 use Rattle.vl_version.specs.declared.version.Version.{Version}

@@ -3,12 +3,12 @@ use Rattle.std.specs.FinMap.{is_sorted}
 use Rattle.std.specs.List.{AllByRecursion}
 use Rattle.std.specs.Prelude.{IsTrue, true, ◌≡◌, ℕ, zero, suc, ◌+◌, ◌++◌, List, [], ◌∷◌, length, take, refl}
 use Rattle.std.proofs.Common.{◌<◌, ◌≤◌, ap, arith, get_or, subst, sym, ◌∙◌}
-use Rattle.vl_core.specs.Known.{are_known}
+use Rattle.vl_engine_laws.specs.Known.{are_known}
 use Rattle.vl_engine.specs.Staging.{commit_entries, write_entry}
-use Rattle.vl_core.specs.laws.KnownLaws.{known_up_to}
-use Rattle.vl_core.specs.laws.MemtableLaws.{commit_is_new}
-use Rattle.vl_layout.specs.Logs.{frame_entries}
-use Rattle.vl_layout.specs.laws.CommitShows.{committed_entries}
+use Rattle.vl_engine_laws.specs.laws.KnownLaws.{known_up_to}
+use Rattle.vl_engine_laws.specs.laws.MemtableLaws.{commit_is_new}
+use Rattle.vl_engine_model.specs.Logs.{frame_entries}
+use Rattle.vl_engine_model.specs.laws.CommitShows.{committed_entries}
 use Rattle.vl_memtable.specs.Contents.{IsNewTo}
 use Rattle.vl_model.specs.Formats.{log_format}
 use Rattle.vl_model.specs.Frames.{record_length}

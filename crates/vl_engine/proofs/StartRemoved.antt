@@ -1,15 +1,15 @@
 -- What is kept of which files can go is the layout's at its start: nothing is pinned, and nothing waits.
 use Rattle.std.specs.Prelude.{ℕ, List, length}
 use Rattle.std.proofs.Common.{sym, ap, subst, arith}
-use Rattle.vl_core.specs.Found.{recovered}
-use Rattle.vl_core.specs.Shown.{Shown}
-use Rattle.vl_core.specs.declared.kept.Core.{Core}
+use Rattle.vl_engine_laws.specs.Found.{recovered}
+use Rattle.vl_engine_laws.specs.Shown.{Shown}
+use Rattle.vl_engine_laws.specs.declared.kept.Core.{Core}
 use Rattle.vl_disk.specs.Crash.{Image}
 use Rattle.vl_engine.specs.Collecting.{AreSealed}
 use Rattle.vl_engine.specs.Removing.{IsNothingRemoved, Removes, UsesThoseOf, all_retired}
 use Rattle.vl_engine.specs.declared.open.Removing.{Removing}
-use Rattle.vl_layout.specs.Start.{layout_at_start}
-use Rattle.vl_layout.specs.declared.layout.Layout.{Layout}
+use Rattle.vl_engine_model.specs.Start.{layout_at_start}
+use Rattle.vl_engine_model.specs.declared.layout.Layout.{Layout}
 use Rattle.vl_model.specs.History.{History, last_number}
 use Rattle.vl_oracle.specs.LiveTickets.{LiveTickets}
 use Rattle.vl_pins.specs.declared.retired_file.RetiredFile.{RetiredFile}

@@ -16,31 +16,31 @@ use Rattle.vl_disk.specs.MadeFile.{made}
 use Rattle.vl_disk.specs.declared.name.Name.TheVariants as names
 use Rattle.vl_disk.specs.declared.name.Name.{Name}
 use Rattle.vl_disk.specs.declared.watched.Watched.{Ghosts}
-use Rattle.vl_core.specs.Files.{IsLogFile}
-use Rattle.vl_core.specs.FlushFacts.{IsTableMade, flush_written}
-use Rattle.vl_core.specs.Pointed.{bytes_of_log}
-use Rattle.vl_core.specs.Represents.{StandsFor}
-use Rattle.vl_core.specs.RotateFacts.{HasBegun, IsSameBack, next_header, next_name}
-use Rattle.vl_core.specs.MayStep.{Fits, HasNumbers, MayStep, covered_all}
-use Rattle.vl_core.specs.declared.kept.Core.{Core}
+use Rattle.vl_engine_laws.specs.Files.{IsLogFile}
+use Rattle.vl_engine_laws.specs.FlushFacts.{IsTableMade, flush_written}
+use Rattle.vl_engine_laws.specs.Pointed.{bytes_of_log}
+use Rattle.vl_engine_laws.specs.Represents.{StandsFor}
+use Rattle.vl_engine_laws.specs.RotateFacts.{HasBegun, IsSameBack, next_header, next_name}
+use Rattle.vl_engine_laws.specs.MayStep.{Fits, HasNumbers, MayStep, covered_all}
+use Rattle.vl_engine_laws.specs.declared.kept.Core.{Core}
 use Rattle.vl_engine.specs.Staging.{next_frame}
 use Rattle.vl_engine.specs.Steps.{IsWritten, frame_of, log_of}
-use Rattle.vl_core.specs.Writing.{written}
-use Rattle.vl_core.specs.laws.FileLaws.{all_more}
-use Rattle.vl_core.specs.laws.KeptLaws.{log_manifest, log_table, written_elsewhere}
-use Rattle.vl_core.specs.laws.RotateWaiting.{covered_more, waits_behind}
-use Rattle.vl_core.specs.laws.WaitingLaws.{waits_first}
+use Rattle.vl_engine_laws.specs.Writing.{written}
+use Rattle.vl_engine_laws.specs.laws.FileLaws.{all_more}
+use Rattle.vl_engine_laws.specs.laws.KeptLaws.{log_manifest, log_table, written_elsewhere}
+use Rattle.vl_engine_laws.specs.laws.RotateWaiting.{covered_more, waits_behind}
+use Rattle.vl_engine_laws.specs.laws.WaitingLaws.{waits_first}
 use Rattle.vl_frame.specs.Runs.{HasFrame}
-use Rattle.vl_layout.specs.Ruling.{ended, halted_at, logged}
-use Rattle.vl_layout.specs.Rulings.Commit.{commit_frame}
-use Rattle.vl_layout.specs.Rulings.Flush.{covered_by, flushed}
-use Rattle.vl_layout.specs.Rulings.Rotate.{rotated}
-use Rattle.vl_layout.specs.Sources.{but_oldest, oldest}
-use Rattle.vl_layout.specs.Start.{newest_first}
-use Rattle.vl_layout.specs.declared.file_name.FileName.{FileName}
-use Rattle.vl_layout.specs.declared.layout.Layout.{Layout}
-use Rattle.vl_layout.specs.declared.live.Live.{Live}
-use Rattle.vl_layout.specs.declared.segment.Segment.{Segment}
+use Rattle.vl_engine_model.specs.Ruling.{ended, halted_at, logged}
+use Rattle.vl_engine_model.specs.Rulings.Commit.{commit_frame}
+use Rattle.vl_engine_model.specs.Rulings.Flush.{covered_by, flushed}
+use Rattle.vl_engine_model.specs.Rulings.Rotate.{rotated}
+use Rattle.vl_engine_model.specs.Sources.{but_oldest, oldest}
+use Rattle.vl_engine_model.specs.Start.{newest_first}
+use Rattle.vl_engine_model.specs.declared.file_name.FileName.{FileName}
+use Rattle.vl_engine_model.specs.declared.layout.Layout.{Layout}
+use Rattle.vl_engine_model.specs.declared.live.Live.{Live}
+use Rattle.vl_engine_model.specs.declared.segment.Segment.{Segment}
 use Rattle.vl_manifest.specs.States.{all_applied, applied, are_next, as_draft, finish, flush_edits, given_if, is_head}
 use Rattle.vl_manifest.specs.States.{next_state, then_applied}
 use Rattle.vl_manifest.specs.declared.edit.Edit.TheVariants.{Add, Head, Next}

@@ -3,23 +3,23 @@ use Rattle.std.specs.Prelude.{◌≡◌, ◌≤◌, ◌++◌, true, List, [], �
 use Rattle.std.specs.List.{AllByRecursion, flat_map}
 use Rattle.std.specs.Option.{option_map}
 use Rattle.std.proofs.Common.{sym, ap, subst, ◌∙◌, refl, arith}
-use Rattle.vl_core.specs.declared.kept.Core.{Core}
-use Rattle.vl_core.specs.Represents.{Fronts}
+use Rattle.vl_engine_laws.specs.declared.kept.Core.{Core}
+use Rattle.vl_engine_laws.specs.Represents.{Fronts}
 use Rattle.vl_engine.specs.Pinning.{PinsLive}
 use Rattle.vl_engine.specs.Removing.{IsStockOf, Removes, UsesThoseOf}
 use Rattle.vl_engine.specs.declared.open.Removing.{Removing}
-use Rattle.vl_layout.specs.Jobs.{lent_numbers}
-use Rattle.vl_layout.specs.Ruling.{halted_at}
-use Rattle.vl_layout.specs.Sources.{rising}
-use Rattle.vl_layout.specs.Tidy.{log_numbers}
-use Rattle.vl_layout.specs.declared.file_name.FileName.{FileName}
-use Rattle.vl_layout.specs.declared.file_name.Retired.{Retired}
-use Rattle.vl_layout.specs.declared.job.OpenJob.{OpenJob}
-use Rattle.vl_layout.specs.declared.job.OpenPass.{OpenPass}
-use Rattle.vl_layout.specs.declared.layout.Layout.{Layout}
-use Rattle.vl_layout.specs.declared.live.Live.{Live}
-use Rattle.vl_layout.specs.declared.segment.Segment.{Segment}
-use Rattle.vl_layout.specs.declared.table.Table as laid
+use Rattle.vl_engine_model.specs.Jobs.{lent_numbers}
+use Rattle.vl_engine_model.specs.Ruling.{halted_at}
+use Rattle.vl_engine_model.specs.Sources.{rising}
+use Rattle.vl_engine_model.specs.Tidy.{log_numbers}
+use Rattle.vl_engine_model.specs.declared.file_name.FileName.{FileName}
+use Rattle.vl_engine_model.specs.declared.file_name.Retired.{Retired}
+use Rattle.vl_engine_model.specs.declared.job.OpenJob.{OpenJob}
+use Rattle.vl_engine_model.specs.declared.job.OpenPass.{OpenPass}
+use Rattle.vl_engine_model.specs.declared.layout.Layout.{Layout}
+use Rattle.vl_engine_model.specs.declared.live.Live.{Live}
+use Rattle.vl_engine_model.specs.declared.segment.Segment.{Segment}
+use Rattle.vl_engine_model.specs.declared.table.Table as laid
 use Rattle.vl_model.specs.Numbers.{has}
 use Rattle.vl_model.specs.History.{History}
 use Rattle.vl_pins.specs.Pins.{ArePinsOf, pinned_of}

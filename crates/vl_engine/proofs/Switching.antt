@@ -4,21 +4,21 @@ use Rattle.std.specs.Prelude.{Some, IsSome, Result, Ok, Err, refl}
 use Rattle.std.specs.Arc.{arc_value}
 use Rattle.std.specs.List.{AllZip, filter, flat_map}
 use Rattle.std.proofs.Common.{sym, ap, subst, ◌∙◌}
-use Rattle.vl_block.specs.Cutting.{points_of}
-use Rattle.vl_block.specs.Footer.{Foot}
-use Rattle.vl_block.specs.declared.points.Point.{Point}
+use Rattle.vl_model.specs.Cutting.{points_of}
+use Rattle.vl_table.specs.body.Footer.{Foot}
+use Rattle.vl_model.specs.declared.point.Point.{Point}
 use Rattle.vl_compact.specs.Laid as compact
 use Rattle.vl_compact.specs.Progress.{IsTableFile, made_of}
 use Rattle.vl_compact.specs.declared.files.Synced.{Synced}
 use Rattle.vl_compact.specs.declared.job.Job.{Job}
-use Rattle.vl_core.specs.Laid.{IsTableOf}
-use Rattle.vl_core.specs.Pointed.{layout_logs}
-use Rattle.vl_core.specs.Files.{IsLogFile}
-use Rattle.vl_core.specs.Passing.{AreReadable}
-use Rattle.vl_core.specs.Represents.{StandsFor}
-use Rattle.vl_core.specs.declared.kept.Core.{Core}
-use Rattle.vl_core.specs.laws.FileLaws.{all_filtered}
-use Rattle.vl_core.specs.laws.LaidTables.{tables_are}
+use Rattle.vl_engine_laws.specs.Laid.{IsTableOf}
+use Rattle.vl_engine_laws.specs.Pointed.{layout_logs}
+use Rattle.vl_engine_laws.specs.Files.{IsLogFile}
+use Rattle.vl_engine_laws.specs.Passing.{AreReadable}
+use Rattle.vl_engine_laws.specs.Represents.{StandsFor}
+use Rattle.vl_engine_laws.specs.declared.kept.Core.{Core}
+use Rattle.vl_engine_laws.specs.laws.FileLaws.{all_filtered}
+use Rattle.vl_engine_laws.specs.laws.LaidTables.{tables_are}
 use Rattle.vl_disk.specs.declared.writer.Writer.{Ghosts as Writers}
 use Rattle.vl_engine.proofs.Collected.{IsAlike, collects_alike, collects_kept, collects_same, decides_too, flush_by}
 use Rattle.vl_engine.proofs.Collected.{head_is_laid, inputs_are_laid, passed_alike, tallies_made}
@@ -30,28 +30,28 @@ use Rattle.vl_engine.specs.Merging.{HasAllMerge, install_outcome}
 use Rattle.vl_engine.specs.declared.fails.InstallFail.TheVariants as fails
 use Rattle.vl_engine.specs.declared.fails.InstallFail.{InstallFail}
 use Rattle.vl_engine.specs.declared.open.Collecting.{Collecting}
-use Rattle.vl_layout.specs.Decides.{Answered, Damaged, Decides, Effects, Failed, NoMemory}
-use Rattle.vl_layout.specs.Jobs.{Made, tables_made}
-use Rattle.vl_layout.specs.Levels.{in_front, is_among}
-use Rattle.vl_layout.specs.Ruling.{Ruling, StepAnswer, Stepped, halted_at, has_no_version, is_idle, leaving}
-use Rattle.vl_layout.specs.Rulings.Flush.{flush_ruling, flushed, flushed_table}
-use Rattle.vl_layout.specs.Rulings.Install as install
-use Rattle.vl_layout.specs.Rulings.Install.{InstallAnswer, Installed, install_checked, install_ruling, install_unless, installed}
-use Rattle.vl_layout.specs.Rulings.Install.{moved_since, put_in, race}
-use Rattle.vl_layout.specs.Sources.{head, numbers_of, tables}
-use Rattle.vl_layout.specs.Tidy.{IsTidy, IsTrueTable}
-use Rattle.vl_layout.specs.declared.file_name.FileName.{FileName}
-use Rattle.vl_layout.specs.declared.job.Job as laid_job
-use Rattle.vl_layout.specs.declared.job.OpenJob.{OpenJob}
-use Rattle.vl_layout.specs.declared.layout.Layout.{Layout}
-use Rattle.vl_layout.specs.declared.segment.Segment.{Segment}
-use Rattle.vl_layout.specs.declared.table.Table as laid
+use Rattle.vl_engine_model.specs.Decides.{Answered, Damaged, Decides, Effects, Failed, NoMemory}
+use Rattle.vl_engine_model.specs.Jobs.{Made, tables_made}
+use Rattle.vl_engine_model.specs.Levels.{in_front, is_among}
+use Rattle.vl_engine_model.specs.Ruling.{Ruling, StepAnswer, Stepped, halted_at, has_no_version, is_idle, leaving}
+use Rattle.vl_engine_model.specs.Rulings.Flush.{flush_ruling, flushed, flushed_table}
+use Rattle.vl_engine_model.specs.Rulings.Install as install
+use Rattle.vl_engine_model.specs.Rulings.Install.{InstallAnswer, Installed, install_checked, install_ruling, install_unless, installed}
+use Rattle.vl_engine_model.specs.Rulings.Install.{moved_since, put_in, race}
+use Rattle.vl_engine_model.specs.Sources.{head, numbers_of, tables}
+use Rattle.vl_engine_model.specs.Tidy.{IsTidy, IsTrueTable}
+use Rattle.vl_engine_model.specs.declared.file_name.FileName.{FileName}
+use Rattle.vl_engine_model.specs.declared.job.Job as laid_job
+use Rattle.vl_engine_model.specs.declared.job.OpenJob.{OpenJob}
+use Rattle.vl_engine_model.specs.declared.layout.Layout.{Layout}
+use Rattle.vl_engine_model.specs.declared.segment.Segment.{Segment}
+use Rattle.vl_engine_model.specs.declared.table.Table as laid
 use Rattle.vl_model.specs.Conflicts.{Named}
 use Rattle.vl_model.specs.History.{History}
 use Rattle.vl_model.specs.Winners.{Logs}
 use Rattle.vl_model.specs.declared.counter.Counter.TheVariants as counters
 use Rattle.vl_model.specs.declared.entry.Entry.{Entry}
-use Rattle.vl_layout.specs.Jobs.{job_ended}
+use Rattle.vl_engine_model.specs.Jobs.{job_ended}
 use Rattle.vl_stats.specs.Live.{AreOf, IsSwitch, points_of_tables}
 use Rattle.vl_stats.specs.Tallies.{IsOfLayout, Tallied}
 use Rattle.vl_stats.specs.laws.RulingLaws.{switch_flushed, switch_installed}

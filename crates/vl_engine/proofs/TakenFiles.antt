@@ -2,9 +2,9 @@
 use Rattle.std.specs.Prelude.{◌≡◌, ℕ, List, [], ◌∷◌, map, Option, None, Some, IsSome, refl}
 use Rattle.std.specs.List.{AllByRecursion, AllZip}
 use Rattle.std.proofs.Common.{sym, ap, subst, ◌∙◌, inl, inr, ⊎_elim}
-use Rattle.vl_block.specs.Bytes.{table_bytes}
-use Rattle.vl_block.specs.Shapes.{IsShapeOf}
-use Rattle.vl_block.specs.declared.shape.TableShape.{TableShape}
+use Rattle.vl_table.specs.body.Bytes.{table_bytes}
+use Rattle.vl_table.specs.body.Shapes.{IsShapeOf}
+use Rattle.vl_table.specs.declared.body.shape.TableShape.{TableShape}
 use Rattle.vl_compact.specs.Laid.{AreTablesOf, IsTableOf}
 use Rattle.vl_compact.specs.Progress.{IsTableFile}
 use Rattle.vl_compact.specs.declared.files.Synced.{Synced}
@@ -13,10 +13,10 @@ use Rattle.vl_disk.specs.Lending.{adopted}
 use Rattle.vl_disk.specs.declared.name.Name.TheVariants as names
 use Rattle.vl_disk.specs.declared.writer.Writer.{Ghosts as Writers}
 use Rattle.vl_engine.specs.Taking.{IsHeldTable, WhileTaking, file_in, file_of_table, with_files}
-use Rattle.vl_core.specs.laws.InstallTaken.{WhileTakingTables, with_tables}
-use Rattle.vl_layout.specs.Jobs.{tables_made}
-use Rattle.vl_layout.specs.Tables.{new_table}
-use Rattle.vl_layout.specs.declared.table.Table as laid
+use Rattle.vl_engine_laws.specs.laws.InstallTaken.{WhileTakingTables, with_tables}
+use Rattle.vl_engine_model.specs.Jobs.{tables_made}
+use Rattle.vl_engine_model.specs.Tables.{new_table}
+use Rattle.vl_engine_model.specs.declared.table.Table as laid
 use Rattle.vl_model.specs.Formats.{table_format}
 use Rattle.vl_model.specs.declared.entry.Entry.{Entry}
 use Rattle.vl_table.specs.Tables.{number_of, shape_of}

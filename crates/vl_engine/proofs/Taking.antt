@@ -23,8 +23,8 @@ use Rattle.vl_disk.specs.laws.NameMap.{get_inserted, get_inserted_other}
 use Rattle.vl_disk.specs.laws.Standing.{holds_after}
 use Rattle.vl_engine.specs.Taking.{IsHeldTable, MayTake, MayTakeAll, PutsAll, StopsTaking, Takes, TakesBack}
 use Rattle.vl_engine.specs.Taking.{WhileTaking, file_in, file_of_table, with_files}
-use Rattle.vl_layout.specs.declared.job.Target.{Target}
-use Rattle.vl_layout.specs.declared.table.Table as laid
+use Rattle.vl_engine_model.specs.declared.job.Target.{Target}
+use Rattle.vl_engine_model.specs.declared.table.Table as laid
 use Rattle.vl_model.specs.Numbers.{has}
 use Rattle.vl_table.specs.declared.table.Table.{Table}
 

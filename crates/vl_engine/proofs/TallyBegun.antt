@@ -4,15 +4,15 @@ use Rattle.std.specs.Prelude.{◌++◌, Option, refl}
 use Rattle.std.specs.List.{AllByRecursion, AllZip, filter}
 use Rattle.std.proofs.Common.{sym, ap, subst, arith, inl, inr}
 use Rattle.std.proofs.lemmas.Bool.Decides.{nat_tests}
-use Rattle.vl_core.specs.Begun.{as_led, layout_begun, led_below}
-use Rattle.vl_core.specs.Shown.{HasFramedAmong, Shown}
-use Rattle.vl_core.specs.laws.BegunLaws.{one_opening}
-use Rattle.vl_core.specs.laws.FileLaws.{all_back, all_front, all_more}
+use Rattle.vl_engine_laws.specs.Begun.{as_led, layout_begun, led_below}
+use Rattle.vl_engine_laws.specs.Shown.{HasFramedAmong, Shown}
+use Rattle.vl_engine_laws.specs.laws.BegunLaws.{one_opening}
+use Rattle.vl_engine_laws.specs.laws.FileLaws.{all_back, all_front, all_more}
 use Rattle.vl_disk.specs.Crash.{Image}
-use Rattle.vl_layout.specs.Start.{has_frames, newest_first}
-use Rattle.vl_layout.specs.Tidy.{log_numbers, sealed}
-use Rattle.vl_layout.specs.declared.layout.Layout.{Layout}
-use Rattle.vl_layout.specs.declared.segment.Segment.{Segment}
+use Rattle.vl_engine_model.specs.Start.{has_frames, newest_first}
+use Rattle.vl_engine_model.specs.Tidy.{log_numbers, sealed}
+use Rattle.vl_engine_model.specs.declared.layout.Layout.{Layout}
+use Rattle.vl_engine_model.specs.declared.segment.Segment.{Segment}
 use Rattle.vl_model.specs.History.{History, last_number}
 use Rattle.vl_model.specs.Numbers.{has}
 use Rattle.vl_recover.specs.opening.Answers.{Finds, logs_then}

@@ -8,17 +8,17 @@ use Rattle.std.specs.declared.cmp.Ordering.{Ordering}
 use Rattle.std.proofs.Common.{sym, ap, subst, ◌∙◌, append_assoc, arith}
 use Rattle.std.proofs.lemmas.Bool.Decides.{nat_tests}
 use Rattle.std.proofs.lemmas.Cmp.{ranked}
-use Rattle.vl_block.specs.Footer.{Foot}
-use Rattle.vl_block.specs.declared.points.Point.{Point}
-use Rattle.vl_core.specs.Laid.{HasLog, IsLogOf, IsTableOf}
-use Rattle.vl_core.specs.Pointed.{bytes_of_log, segment_at}
-use Rattle.vl_core.specs.laws.SegmentLaws.{segment_there}
-use Rattle.vl_layout.specs.Jobs.{AreDistinct}
-use Rattle.vl_layout.specs.Levels.{is_among}
-use Rattle.vl_layout.specs.Sources.{put_segment, rising}
-use Rattle.vl_layout.specs.Tidy.{IsTrueLog, IsTrueTable, log_numbers}
-use Rattle.vl_layout.specs.declared.segment.Segment.{Segment}
-use Rattle.vl_layout.specs.declared.table.Table as laid
+use Rattle.vl_table.specs.body.Footer.{Foot}
+use Rattle.vl_model.specs.declared.point.Point.{Point}
+use Rattle.vl_engine_laws.specs.Laid.{HasLog, IsLogOf, IsTableOf}
+use Rattle.vl_engine_laws.specs.Pointed.{bytes_of_log, segment_at}
+use Rattle.vl_engine_laws.specs.laws.SegmentLaws.{segment_there}
+use Rattle.vl_engine_model.specs.Jobs.{AreDistinct}
+use Rattle.vl_engine_model.specs.Levels.{is_among}
+use Rattle.vl_engine_model.specs.Sources.{put_segment, rising}
+use Rattle.vl_engine_model.specs.Tidy.{IsTrueLog, IsTrueTable, log_numbers}
+use Rattle.vl_engine_model.specs.declared.segment.Segment.{Segment}
+use Rattle.vl_engine_model.specs.declared.table.Table as laid
 use Rattle.vl_model.specs.Entries.{by_order}
 use Rattle.vl_model.specs.Numbers.{has}
 use Rattle.vl_seglog.specs.declared.sealed.SealedLog.{SealedLog}

@@ -9,7 +9,7 @@ use Rattle.vl_compact.specs.Progress.{IsNew, KeepsAll, Leaves, Takes}
 use Rattle.vl_compact.specs.declared.files.Lent.{Lent}
 use Rattle.vl_compact.specs.declared.files.Synced.{Synced}
 use Rattle.vl_compact.specs.declared.job.Job.{Job}
-use Rattle.vl_core.specs.declared.kept.Core.{Core}
+use Rattle.vl_engine_laws.specs.declared.kept.Core.{Core}
 use Rattle.vl_disk.specs.Calls.{ChangesNothing}
 use Rattle.vl_disk.specs.Disk.{IsChangedBy}
 use Rattle.vl_disk.specs.DiskState.{DiskState, new_file}
@@ -26,7 +26,7 @@ use Rattle.vl_engine.specs.declared.fails.StepFail.TheVariants as fails
 use Rattle.vl_engine.specs.declared.fails.StepFail.{StepFail}
 use Rattle.vl_engine.specs.declared.open.OpenMerge.{OpenMerge}
 use Rattle.vl_engine.specs.declared.open.Removing.{Removing}
-use Rattle.vl_layout.specs.Jobs.{AreDistinct}
+use Rattle.vl_engine_model.specs.Jobs.{AreDistinct}
 use Rattle.vl_model.specs.Numbers.{has}
 
 -- ---- numbers

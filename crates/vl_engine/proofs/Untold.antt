@@ -5,7 +5,7 @@ use Rattle.std.proofs.Common.{ap, ◌∙◌}
 use Rattle.vl_disk.specs.Disk.{IsChangedBy}
 use Rattle.vl_disk.specs.DiskState.{DiskState}
 use Rattle.vl_disk.specs.declared.watched.Watched.{Ghosts}
-use Rattle.vl_core.specs.Carries.{StaysUntold}
+use Rattle.vl_engine_laws.specs.Carries.{StaysUntold}
 use Rattle.vl_engine.specs.Flushing.{FlushesAs}
 use Rattle.vl_engine.specs.Keeping.{KeepsAs}
 use Rattle.vl_engine.specs.Rotating.{RotatesAs}
@@ -15,7 +15,7 @@ use Rattle.vl_engine.specs.declared.engine.Done.{Done}
 use Rattle.vl_engine.specs.declared.fails.CommitFail.{CommitFail}
 use Rattle.vl_engine.specs.declared.fails.KeepFail.{KeepFail}
 use Rattle.vl_engine.specs.declared.fails.StepFail.{StepFail}
-use Rattle.vl_core.specs.declared.kept.Core.{Core}
+use Rattle.vl_engine_laws.specs.declared.kept.Core.{Core}
 use Rattle.vl_model.specs.Keys.{Writes}
 
 -- what was told was changed, behind a disk that tells what the first one did

@@ -16,44 +16,44 @@ use Rattle.vl_disk.specs.Moments.{holds_then}
 use Rattle.vl_disk.specs.declared.name.Name.{Name}
 use Rattle.vl_disk.specs.declared.watched.Watched.{Ghosts}
 use Rattle.vl_disk.specs.declared.writer.Writer.{Ghosts as Writers}
-use Rattle.vl_core.specs.laws.Carrying.{IsWatched, opens_again, rests}
+use Rattle.vl_engine_laws.specs.laws.Carrying.{IsWatched, opens_again, rests}
 use Rattle.vl_engine.proofs.InstallDiskTables.{made_numbers_are}
 use Rattle.vl_engine.proofs.Planning.{fits_abandoned, represents_abandoned}
-use Rattle.vl_core.specs.Carries.{Carries, CrashesShow, Tells}
+use Rattle.vl_engine_laws.specs.Carries.{Carries, CrashesShow, Tells}
 use Rattle.vl_engine.specs.Drawing.{IsSameJob}
 use Rattle.vl_engine.specs.Installing.{IsHandedIn, install_otherwise, numbers_in}
 use Rattle.vl_engine.specs.Lent.{Opens}
 use Rattle.vl_engine.specs.Merging.{FitsReaders, HasAllMerge, HasMerge, StandsOpen, fresh_effects, fresh_outcome, plan_outcome}
-use Rattle.vl_core.specs.Represents.{Fronts, Represents, file_of}
-use Rattle.vl_core.specs.Shown.{LeavesBetween}
-use Rattle.vl_core.specs.MayStep.{AreLogFiles, Fits}
+use Rattle.vl_engine_laws.specs.Represents.{Fronts, Represents, file_of}
+use Rattle.vl_engine_laws.specs.Shown.{LeavesBetween}
+use Rattle.vl_engine_laws.specs.MayStep.{AreLogFiles, Fits}
 use Rattle.vl_engine.proofs.Collected.{IsAlike, alike_same, collects_alike, collects_same}
 use Rattle.vl_engine.specs.Collecting.{Collects}
 use Rattle.vl_engine.specs.Whole.{HasSameLogs, MakesTables, StaysCollecting, StaysFor, kept_of}
 use Rattle.vl_engine.specs.declared.open.Collecting.{Collecting}
 use Rattle.vl_engine.specs.declared.fails.MergeFail.{MergeFail}
 use Rattle.vl_engine.specs.declared.fails.StepFail.{StepFail}
-use Rattle.vl_core.specs.declared.kept.Core.{Core}
+use Rattle.vl_engine_laws.specs.declared.kept.Core.{Core}
 use Rattle.vl_engine.specs.declared.open.OpenMerge.{OpenMerge}
-use Rattle.vl_layout.specs.Decides.{Answered, Damaged, Decides, Effects, Failed, NoMemory, Otherwise, Outcome, as_before, no_effects}
-use Rattle.vl_layout.specs.Jobs.{AreDistinct, AreLent, Made, nothing_made}
-use Rattle.vl_layout.specs.Levels.{due_from, inputs_at}
-use Rattle.vl_layout.specs.Merging.{merged_entries, outputs}
-use Rattle.vl_layout.specs.Ruling.{Ruling, halted_at, has_no_number, has_no_version, leaving, pin_of}
-use Rattle.vl_layout.specs.Rulings.Abandon.{abandon_ruling}
-use Rattle.vl_layout.specs.Rulings.Fresh as fresh
-use Rattle.vl_layout.specs.Rulings.Fresh.{FreshAnswer, drawn, fresh_ruling, fresh_unless, lent_to}
-use Rattle.vl_layout.specs.Rulings.Install as install
-use Rattle.vl_layout.specs.Rulings.Install.{InstallAnswer, install_checked, install_lost, install_ruling}
-use Rattle.vl_layout.specs.Rulings.Install.{install_unless, installed, moved_since, race}
-use Rattle.vl_layout.specs.Rulings.Plan.{job_of, plan_of, plan_ruling, plan_unless, planned, with_job}
-use Rattle.vl_layout.specs.Sources.{numbers_of}
-use Rattle.vl_layout.specs.Tables.{cut_into_tables}
-use Rattle.vl_layout.specs.declared.file_name.FileName.{FileName}
-use Rattle.vl_layout.specs.declared.job.Job.{Job}
-use Rattle.vl_layout.specs.declared.job.OpenJob.{OpenJob}
-use Rattle.vl_layout.specs.declared.job.Target.TheVariants.{Level}
-use Rattle.vl_layout.specs.declared.layout.Layout.{Layout}
+use Rattle.vl_engine_model.specs.Decides.{Answered, Damaged, Decides, Effects, Failed, NoMemory, Otherwise, Outcome, as_before, no_effects}
+use Rattle.vl_engine_model.specs.Jobs.{AreDistinct, AreLent, Made, nothing_made}
+use Rattle.vl_engine_model.specs.Levels.{due_from, inputs_at}
+use Rattle.vl_engine_model.specs.Merging.{merged_entries, outputs}
+use Rattle.vl_engine_model.specs.Ruling.{Ruling, halted_at, has_no_number, has_no_version, leaving, pin_of}
+use Rattle.vl_engine_model.specs.Rulings.Abandon.{abandon_ruling}
+use Rattle.vl_engine_model.specs.Rulings.Fresh as fresh
+use Rattle.vl_engine_model.specs.Rulings.Fresh.{FreshAnswer, drawn, fresh_ruling, fresh_unless, lent_to}
+use Rattle.vl_engine_model.specs.Rulings.Install as install
+use Rattle.vl_engine_model.specs.Rulings.Install.{InstallAnswer, install_checked, install_lost, install_ruling}
+use Rattle.vl_engine_model.specs.Rulings.Install.{install_unless, installed, moved_since, race}
+use Rattle.vl_engine_model.specs.Rulings.Plan.{job_of, plan_of, plan_ruling, plan_unless, planned, with_job}
+use Rattle.vl_engine_model.specs.Sources.{numbers_of}
+use Rattle.vl_engine_model.specs.Tables.{cut_into_tables}
+use Rattle.vl_engine_model.specs.declared.file_name.FileName.{FileName}
+use Rattle.vl_engine_model.specs.declared.job.Job.{Job}
+use Rattle.vl_engine_model.specs.declared.job.OpenJob.{OpenJob}
+use Rattle.vl_engine_model.specs.declared.job.Target.TheVariants.{Level}
+use Rattle.vl_engine_model.specs.declared.layout.Layout.{Layout}
 use Rattle.vl_model.specs.Conflicts.{Named}
 use Rattle.vl_model.specs.History.{History}
 use Rattle.vl_model.specs.Numbers.{has}

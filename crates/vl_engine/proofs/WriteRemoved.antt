@@ -3,8 +3,8 @@ use Rattle.std.specs.Prelude.{◌≡◌, ℕ, List, Bool, Option, Result, Ok, Er
 use Rattle.std.specs.FinMap.{entries}
 use Rattle.std.proofs.Common.{sym, ap, subst, ◌∙◌, arith}
 use Rattle.vl_back.specs.declared.back.Back.{Back}
-use Rattle.vl_core.specs.Represents.{Fronts, file_of}
-use Rattle.vl_core.specs.declared.kept.Core.{Core}
+use Rattle.vl_engine_laws.specs.Represents.{Fronts, file_of}
+use Rattle.vl_engine_laws.specs.declared.kept.Core.{Core}
 use Rattle.vl_disk.specs.declared.name.Name.TheVariants as names
 use Rattle.vl_disk.specs.declared.name.Name.{Name}
 use Rattle.vl_disk.specs.declared.watched.Watched.{Ghosts}
@@ -19,10 +19,10 @@ use Rattle.vl_engine.specs.declared.engine.Done.{Done}
 use Rattle.vl_engine.specs.declared.fails.CommitFail.TheVariants as fails
 use Rattle.vl_engine.specs.declared.fails.CommitFail.{CommitFail}
 use Rattle.vl_engine.specs.declared.open.Removing.{Removing}
-use Rattle.vl_layout.specs.Decides.{Decides, Failed, Otherwise, as_before, effects_of, no_effects}
-use Rattle.vl_layout.specs.Ruling.{Ruling, ended}
-use Rattle.vl_layout.specs.Rulings.Commit.{At, CommitAnswer, Transaction, commit_lost, commit_ruling, committed}
-use Rattle.vl_layout.specs.declared.layout.Layout.{Layout}
+use Rattle.vl_engine_model.specs.Decides.{Decides, Failed, Otherwise, as_before, effects_of, no_effects}
+use Rattle.vl_engine_model.specs.Ruling.{Ruling, ended}
+use Rattle.vl_engine_model.specs.Rulings.Commit.{At, CommitAnswer, Transaction, commit_lost, commit_ruling, committed}
+use Rattle.vl_engine_model.specs.declared.layout.Layout.{Layout}
 use Rattle.vl_model.specs.History.{History}
 use Rattle.vl_model.specs.Keys.{Writes}
 use Rattle.vl_model.specs.Reads.{Read}

@@ -9,15 +9,15 @@ use Rattle.vl_disk.specs.DiskState.{DiskState}
 use Rattle.vl_disk.specs.Moments.{Elapses}
 use Rattle.vl_disk.specs.declared.name.Name.TheVariants.{Log}
 use Rattle.vl_disk.specs.declared.watched.Watched.{Ghosts}
-use Rattle.vl_core.specs.Known.{are_known}
+use Rattle.vl_engine_laws.specs.Known.{are_known}
 use Rattle.vl_engine.specs.Staging.{next_frame}
 use Rattle.vl_engine.specs.Steps.{Hands, frame_of, log_of}
-use Rattle.vl_core.specs.Writing.{StopsWriting, WhileWriting, written}
-use Rattle.vl_core.specs.laws.KnownLaws.{known_up_to, up_to_known}
-use Rattle.vl_core.specs.laws.MemtableLaws.{commit_known}
+use Rattle.vl_engine_laws.specs.Writing.{StopsWriting, WhileWriting, written}
+use Rattle.vl_engine_laws.specs.laws.KnownLaws.{known_up_to, up_to_known}
+use Rattle.vl_engine_laws.specs.laws.MemtableLaws.{commit_known}
 use Rattle.vl_front.specs.Front.{Knows}
 use Rattle.vl_front.specs.declared.front.Front.{Front}
-use Rattle.vl_layout.specs.Logs.{frame_entries}
+use Rattle.vl_engine_model.specs.Logs.{frame_entries}
 use Rattle.vl_model.specs.Conflicts.{Named}
 use Rattle.vl_model.specs.Entries.{in_order}
 use Rattle.vl_model.specs.Formats.{log_format}

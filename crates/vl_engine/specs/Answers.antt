@@ -1,6 +1,6 @@
 -- What a call came to, as the ruling on it has it, and how many changing calls it made.
 use Rattle.std.specs.Prelude.{◌≡◌, Option, None, Some, Result, Ok, Err}
-use Rattle.vl_core.specs.Represents.{file_of}
+use Rattle.vl_engine_laws.specs.Represents.{file_of}
 use Rattle.vl_engine.specs.declared.engine.Done.{Done}
 use Rattle.vl_engine.specs.declared.engine.Done.TheVariants as done
 use Rattle.vl_engine.specs.declared.fails.CommitFail.{CommitFail}
@@ -8,11 +8,11 @@ use Rattle.vl_engine.specs.declared.fails.CommitFail.TheVariants as fails
 use Rattle.vl_engine.specs.declared.txn.Txn.{Txn}
 use Rattle.vl_engine.specs.declared.view.View.{View}
 use Rattle.vl_frame.specs.Runs.{HasFrame}
-use Rattle.vl_layout.specs.Decides.{Answered, Effects, Failed, NoMemory, Outcome, no_effects}
-use Rattle.vl_layout.specs.Rulings.Begin.{BeginAnswer, Begun, TooMany}
-use Rattle.vl_layout.specs.Rulings.Commit.{At, CommitAnswer, Conflict, Exhausted, Full, Halted, Nothing, Transaction}
-use Rattle.vl_layout.specs.Rulings.Commit.{commit_frame, commit_ruling, committed}
-use Rattle.vl_layout.specs.declared.layout.Layout.{Layout}
+use Rattle.vl_engine_model.specs.Decides.{Answered, Effects, Failed, NoMemory, Outcome, no_effects}
+use Rattle.vl_engine_model.specs.Rulings.Begin.{BeginAnswer, Begun, TooMany}
+use Rattle.vl_engine_model.specs.Rulings.Commit.{At, CommitAnswer, Conflict, Exhausted, Full, Halted, Nothing, Transaction}
+use Rattle.vl_engine_model.specs.Rulings.Commit.{commit_frame, commit_ruling, committed}
+use Rattle.vl_engine_model.specs.declared.layout.Layout.{Layout}
 use Rattle.vl_model.specs.Formats.{log_format}
 use Rattle.vl_model.specs.History.{History}
 use Rattle.vl_model.specs.declared.counter.Counter.TheVariants as counters

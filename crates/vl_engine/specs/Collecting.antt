@@ -3,16 +3,16 @@ use Rattle.std.specs.Prelude.{◌≡◌, ◌<◌, ◌==◌, ℕ, true, List, map
 use Rattle.std.specs.Arc.{arc_value}
 use Rattle.std.specs.List.{AllByRecursion, filter}
 use Rattle.std.specs.Option.{ForSome, option_map}
-use Rattle.vl_block.specs.declared.points.Point.{Point}
+use Rattle.vl_model.specs.declared.point.Point.{Point}
 use Rattle.vl_collect.specs.Passing.{Begins, IsPass, IsWholeFrom}
 use Rattle.vl_collect.specs.declared.pass.Pass.{Pass}
 use Rattle.vl_compact.specs.Progress.{made_of}
 use Rattle.vl_compact.specs.declared.files.Synced.{Synced}
 use Rattle.vl_compact.specs.declared.job.Job.{Job}
-use Rattle.vl_core.specs.Lasts.{Lasts}
-use Rattle.vl_core.specs.Passing.{AreReadable}
-use Rattle.vl_core.specs.Represents.{StandsFor}
-use Rattle.vl_core.specs.declared.kept.Core.{Core}
+use Rattle.vl_engine_laws.specs.Lasts.{Lasts}
+use Rattle.vl_engine_laws.specs.Passing.{AreReadable}
+use Rattle.vl_engine_laws.specs.Represents.{StandsFor}
+use Rattle.vl_engine_laws.specs.declared.kept.Core.{Core}
 use Rattle.vl_disk.specs.declared.writer.Writer.{Ghosts as Writers}
 use Rattle.vl_engine.specs.Merging.{HasAllMerge}
 use Rattle.vl_engine.specs.declared.fails.InstallFail.{InstallFail}
@@ -20,18 +20,18 @@ use Rattle.vl_engine.specs.declared.fails.PickFail.{PickFail}
 use Rattle.vl_engine.specs.declared.fails.PickFail.TheVariants as fails
 use Rattle.vl_engine.specs.declared.fails.StepFail.{StepFail}
 use Rattle.vl_engine.specs.declared.open.Collecting.{Collecting}
-use Rattle.vl_layout.specs.Decides.{Answered, NoMemory, Outcome}
-use Rattle.vl_layout.specs.Relocation as layout
-use Rattle.vl_layout.specs.Ruling.{Stepped}
-use Rattle.vl_layout.specs.Rulings.Flush.{flush_ruling}
-use Rattle.vl_layout.specs.Rulings.Install.{Installed, install_ruling}
-use Rattle.vl_layout.specs.Rulings.Pick.{PickAnswer, Picked}
-use Rattle.vl_layout.specs.Rulings.Pick as pick
-use Rattle.vl_layout.specs.Rulings.Rotate.{rotate_ruling}
-use Rattle.vl_layout.specs.Tidy.{log_numbers, sealed}
-use Rattle.vl_layout.specs.declared.job.OpenJob.{OpenJob}
-use Rattle.vl_layout.specs.declared.job.OpenPass.{OpenPass}
-use Rattle.vl_layout.specs.declared.layout.Layout.{Layout}
+use Rattle.vl_engine_model.specs.Decides.{Answered, NoMemory, Outcome}
+use Rattle.vl_engine_model.specs.Relocation as layout
+use Rattle.vl_engine_model.specs.Ruling.{Stepped}
+use Rattle.vl_engine_model.specs.Rulings.Flush.{flush_ruling}
+use Rattle.vl_engine_model.specs.Rulings.Install.{Installed, install_ruling}
+use Rattle.vl_engine_model.specs.Rulings.Pick.{PickAnswer, Picked}
+use Rattle.vl_engine_model.specs.Rulings.Pick as pick
+use Rattle.vl_engine_model.specs.Rulings.Rotate.{rotate_ruling}
+use Rattle.vl_engine_model.specs.Tidy.{log_numbers, sealed}
+use Rattle.vl_engine_model.specs.declared.job.OpenJob.{OpenJob}
+use Rattle.vl_engine_model.specs.declared.job.OpenPass.{OpenPass}
+use Rattle.vl_engine_model.specs.declared.layout.Layout.{Layout}
 use Rattle.vl_model.specs.History.{History}
 use Rattle.vl_model.specs.Numbers.{has}
 use Rattle.vl_seglog.specs.declared.sealed.SealedLog.{SealedLog}

@@ -28,17 +28,17 @@ use Rattle.vl_engine.specs.Taking.{StopsTaking, TakesBack}
 use Rattle.vl_engine.specs.declared.fails.InstallFail.TheVariants as install
 use Rattle.vl_engine.specs.declared.fails.InstallFail.{InstallFail}
 use Rattle.vl_engine.specs.declared.installing.ReadyInstall.{ReadyInstall}
-use Rattle.vl_core.specs.declared.kept.Core.{Core}
+use Rattle.vl_engine_laws.specs.declared.kept.Core.{Core}
 use Rattle.vl_engine.specs.declared.open.OpenMerge.{OpenMerge}
-use Rattle.vl_layout.specs.Decides.{Otherwise, as_before}
-use Rattle.vl_layout.specs.Jobs.{AreDistinct, Made}
-use Rattle.vl_layout.specs.Levels.{replaced}
-use Rattle.vl_layout.specs.Merging.{gone_after, needless}
-use Rattle.vl_layout.specs.Rulings.Install.{install_lost}
-use Rattle.vl_layout.specs.declared.job.Job as laid_job
-use Rattle.vl_layout.specs.declared.job.Target.{Target}
-use Rattle.vl_layout.specs.declared.layout.Layout.{Layout}
-use Rattle.vl_layout.specs.declared.table.Table as laid
+use Rattle.vl_engine_model.specs.Decides.{Otherwise, as_before}
+use Rattle.vl_engine_model.specs.Jobs.{AreDistinct, Made}
+use Rattle.vl_engine_model.specs.Levels.{replaced}
+use Rattle.vl_engine_model.specs.Merging.{gone_after, needless}
+use Rattle.vl_engine_model.specs.Rulings.Install.{install_lost}
+use Rattle.vl_engine_model.specs.declared.job.Job as laid_job
+use Rattle.vl_engine_model.specs.declared.job.Target.{Target}
+use Rattle.vl_engine_model.specs.declared.layout.Layout.{Layout}
+use Rattle.vl_engine_model.specs.declared.table.Table as laid
 use Rattle.vl_manifest.specs.Switching.{Switches}
 use Rattle.vl_model.specs.Limits.{max_version_number}
 use Rattle.vl_model.specs.Numbers.{has}

@@ -3,13 +3,13 @@ use Rattle.std.specs.Prelude.{◌≡◌, ◌==◌, ℕ, if◌then◌else◌}
 use Rattle.std.specs.Prelude.{Result, Ok, Err}
 use Rattle.vl_disk.specs.Calls.{ChangesNothing}
 use Rattle.vl_disk.specs.declared.watched.Watched.{Ghosts}
-use Rattle.vl_core.specs.Represents.{file_of}
-use Rattle.vl_core.specs.KeepFacts.{AreKept, AreNotKept}
+use Rattle.vl_engine_laws.specs.Represents.{file_of}
+use Rattle.vl_engine_laws.specs.KeepFacts.{AreKept, AreNotKept}
 use Rattle.vl_engine.specs.declared.fails.KeepFail.TheVariants as fails
 use Rattle.vl_engine.specs.declared.fails.KeepFail.{KeepFail}
-use Rattle.vl_core.specs.declared.kept.Core.{Core}
-use Rattle.vl_layout.specs.Decides.{Answered, Effects, Failed, NoMemory, Outcome, no_effects}
-use Rattle.vl_layout.specs.Rulings.Keep.{Halted, InvalidRequest, KeepAnswer, Kept}
+use Rattle.vl_engine_laws.specs.declared.kept.Core.{Core}
+use Rattle.vl_engine_model.specs.Decides.{Answered, Effects, Failed, NoMemory, Outcome, no_effects}
+use Rattle.vl_engine_model.specs.Rulings.Keep.{Halted, InvalidRequest, KeepAnswer, Kept}
 
 -- ---- what it comes to, as the ruling has it
 

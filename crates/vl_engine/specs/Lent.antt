@@ -5,7 +5,7 @@ use Rattle.vl_disk.specs.Disk.{IsFree}
 use Rattle.vl_disk.specs.declared.name.Name.TheVariants.{Table}
 use Rattle.vl_disk.specs.declared.watched.Watched.{Ghosts}
 use Rattle.vl_engine.specs.declared.open.OpenMerge.{OpenMerge}
-use Rattle.vl_layout.specs.declared.job.OpenJob.{OpenJob}
+use Rattle.vl_engine_model.specs.declared.job.OpenJob.{OpenJob}
 
 -- A file with this number was lent: its number was given already, the disk has room to take it back, and it doesn't stand.
 pub record IsLent {D : Type 0} (g : Ghosts D) (disk : D) (next_table n : ℕ) : Type 0 where

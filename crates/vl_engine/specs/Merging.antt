@@ -6,21 +6,21 @@ use Rattle.vl_compact.specs.declared.files.Lent.{Lent}
 use Rattle.vl_compact.specs.declared.files.Synced.{Synced}
 use Rattle.vl_compact.specs.Progress.{Has, HasAll, IsJobOf}
 use Rattle.vl_disk.specs.declared.writer.Writer.{Ghosts as Writers}
-use Rattle.vl_core.specs.Represents.{StandsFor, file_of}
+use Rattle.vl_engine_laws.specs.Represents.{StandsFor, file_of}
 use Rattle.vl_engine.specs.Lent.{Opens}
 use Rattle.vl_engine.specs.declared.fails.InstallFail.{InstallFail}
 use Rattle.vl_engine.specs.declared.fails.InstallFail.TheVariants as install
 use Rattle.vl_engine.specs.declared.fails.StepFail.{StepFail}
 use Rattle.vl_engine.specs.declared.fails.StepFail.TheVariants as fails
-use Rattle.vl_core.specs.declared.kept.Core.{Core}
+use Rattle.vl_engine_laws.specs.declared.kept.Core.{Core}
 use Rattle.vl_engine.specs.declared.open.OpenMerge.{OpenMerge}
-use Rattle.vl_layout.specs.Decides.{Answered, Effects, Failed, NoMemory, Outcome, no_effects}
-use Rattle.vl_layout.specs.Rulings.Fresh.{Drawn, FreshAnswer}
-use Rattle.vl_layout.specs.Rulings.Fresh as fresh
-use Rattle.vl_layout.specs.Rulings.Install.{InstallAnswer, Installed}
-use Rattle.vl_layout.specs.Rulings.Install as ruling
-use Rattle.vl_layout.specs.declared.job.Job as laid_job
-use Rattle.vl_layout.specs.declared.layout.Layout.{Layout}
+use Rattle.vl_engine_model.specs.Decides.{Answered, Effects, Failed, NoMemory, Outcome, no_effects}
+use Rattle.vl_engine_model.specs.Rulings.Fresh.{Drawn, FreshAnswer}
+use Rattle.vl_engine_model.specs.Rulings.Fresh as fresh
+use Rattle.vl_engine_model.specs.Rulings.Install.{InstallAnswer, Installed}
+use Rattle.vl_engine_model.specs.Rulings.Install as ruling
+use Rattle.vl_engine_model.specs.declared.job.Job as laid_job
+use Rattle.vl_engine_model.specs.declared.layout.Layout.{Layout}
 use Rattle.vl_model.specs.History.{History}
 use Rattle.vl_oracle.specs.LiveTickets.{floor_of}
 use Rattle.vl_table.specs.Kept.{Files}

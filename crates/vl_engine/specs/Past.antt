@@ -1,13 +1,13 @@
 -- Reads of the past: from which number on they are answered, and what of a version that needs.
 use Rattle.std.specs.Prelude.{◌≡◌, ◌≤◌, ◌<◌, ℕ, nat_lt, if◌then◌else◌, List, Option, None, Some, Result, Ok, Err}
 use Rattle.vl_disk.specs.Faults.{HasCause}
-use Rattle.vl_core.specs.LiesOver.{IsInMemory}
+use Rattle.vl_engine_laws.specs.LiesOver.{IsInMemory}
 use Rattle.vl_engine.specs.declared.fails.AtFail.{AtFail}
 use Rattle.vl_engine.specs.declared.fails.AtFail.TheVariants as why
-use Rattle.vl_core.specs.declared.kept.Core.{Core}
+use Rattle.vl_engine_laws.specs.declared.kept.Core.{Core}
 use Rattle.vl_engine.specs.declared.past.Past.{Past}
-use Rattle.vl_layout.specs.AtAnswer.{Ahead, AtAnswer, Beginning, Dropped, EmptyKey, Found, KeyTooLong, at_answer}
-use Rattle.vl_layout.specs.Shows.{Shows}
+use Rattle.vl_engine_model.specs.AtAnswer.{Ahead, AtAnswer, Beginning, Dropped, EmptyKey, Found, KeyTooLong, at_answer}
+use Rattle.vl_engine_model.specs.Shows.{Shows}
 use Rattle.vl_model.specs.History.{History, last_number}
 use Rattle.vl_model.specs.Keys.{Stored}
 use Rattle.vl_model.specs.Numbers.{low_of}
@@ -22,8 +22,8 @@ use Rattle.vl_txn.specs.Refusals.{refused_key}
 use Rattle.vl_txn.specs.declared.key_fail.KeyFail.{KeyFail}
 use Rattle.vl_txn.specs.declared.key_fail.KeyFail.TheVariants as keys
 use Rattle.vl_version.specs.Sources.{HasEntries, tables_in}
-use Rattle.vl_version.specs.declared.fault.ReadFault.{ReadFault as VersionFault}
-use Rattle.vl_version.specs.declared.fault.ReadFault.TheVariants as fault
+use Rattle.vl_disk.specs.declared.read_fault.ReadFault.{ReadFault as VersionFault}
+use Rattle.vl_disk.specs.declared.read_fault.ReadFault.TheVariants as fault
 use Rattle.vl_version.specs.declared.version.Version.{Version}
 
 -- ---- what is seen of the past

@@ -5,10 +5,10 @@ use Rattle.vl_engine.specs.declared.fails.CommitFail.{CommitFail}
 use Rattle.vl_engine.specs.declared.fails.CommitFail.TheVariants as fails
 use Rattle.vl_engine.specs.declared.fails.PickFail.{PickFail}
 use Rattle.vl_engine.specs.declared.open.Removing.{Removing}
-use Rattle.vl_layout.specs.Rising.{IsRising}
-use Rattle.vl_layout.specs.Tickets.{tickets_of}
-use Rattle.vl_layout.specs.declared.layout.Layout.{Layout}
-use Rattle.vl_layout.specs.declared.live.Live.{Live}
+use Rattle.vl_engine_model.specs.Rising.{IsRising}
+use Rattle.vl_engine_model.specs.Tickets.{tickets_of}
+use Rattle.vl_engine_model.specs.declared.layout.Layout.{Layout}
+use Rattle.vl_engine_model.specs.declared.live.Live.{Live}
 use Rattle.vl_model.specs.Limits.{max_live}
 use Rattle.vl_oracle.specs.LiveTickets.{LiveTickets, begun, ended, free_ticket}
 use Rattle.vl_oracle.specs.declared.begin_fail.BeginFail.{BeginFail}

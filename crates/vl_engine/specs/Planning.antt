@@ -2,14 +2,14 @@
 use Rattle.std.specs.Prelude.{◌≡◌, ℕ, List, Option, None, Some}
 use Rattle.vl_compact.specs.Merges.{IsMerge, Merge}
 use Rattle.vl_compact.specs.declared.inputs.Inputs.{Inputs}
-use Rattle.vl_core.specs.Pointed.{layout_logs}
-use Rattle.vl_core.specs.laws.PlanSources.{IsPart}
-use Rattle.vl_layout.specs.Ruling.{Ruling, leaving}
-use Rattle.vl_layout.specs.Rulings.Plan.{job_of, planned}
-use Rattle.vl_layout.specs.Sources.{tables}
-use Rattle.vl_layout.specs.Tidy.{IsRuledTidy, IsTidy}
-use Rattle.vl_layout.specs.declared.job.Job.{Job}
-use Rattle.vl_layout.specs.declared.layout.Layout.{Layout}
+use Rattle.vl_engine_laws.specs.Pointed.{layout_logs}
+use Rattle.vl_engine_laws.specs.laws.PlanSources.{IsPart}
+use Rattle.vl_engine_model.specs.Ruling.{Ruling, leaving}
+use Rattle.vl_engine_model.specs.Rulings.Plan.{job_of, planned}
+use Rattle.vl_engine_model.specs.Sources.{tables}
+use Rattle.vl_engine_model.specs.Tidy.{IsRuledTidy, IsTidy}
+use Rattle.vl_engine_model.specs.declared.job.Job.{Job}
+use Rattle.vl_engine_model.specs.declared.layout.Layout.{Layout}
 use Rattle.vl_model.specs.History.{History}
 
 -- the ruling that begins a merge, where there is one

@@ -21,8 +21,8 @@ use Rattle.vl_txn.specs.declared.key_fail.KeyFail.TheVariants.{EmptyKey, KeyTooL
 use Rattle.vl_version.specs.Answers.{Fills, Gives}
 use Rattle.vl_version.specs.Over.{LooksOver}
 use Rattle.vl_version.specs.Sources.{stored_in}
-use Rattle.vl_version.specs.declared.fault.ReadFault.{ReadFault as VersionFault}
-use Rattle.vl_version.specs.declared.fault.ReadFault.TheVariants as failed
+use Rattle.vl_disk.specs.declared.read_fault.ReadFault.{ReadFault as VersionFault}
+use Rattle.vl_disk.specs.declared.read_fault.ReadFault.TheVariants as failed
 use Rattle.vl_version.specs.declared.found.Found.{Found}
 use Rattle.vl_version.specs.declared.found.Found.TheVariants as found
 use Rattle.vl_version.specs.declared.version.Version.{Version}

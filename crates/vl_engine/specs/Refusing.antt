@@ -5,8 +5,8 @@ use Rattle.vl_engine.specs.declared.fails.ReadFault.{ReadFault}
 use Rattle.vl_engine.specs.declared.fails.ReadFault.TheVariants as into
 use Rattle.vl_txn.specs.declared.key_fail.KeyFail.{KeyFail}
 use Rattle.vl_txn.specs.declared.key_fail.KeyFail.TheVariants.{EmptyKey, KeyTooLong}
-use Rattle.vl_version.specs.declared.fault.ReadFault as version
-use Rattle.vl_version.specs.declared.fault.ReadFault.TheVariants as fault
+use Rattle.vl_disk.specs.declared.read_fault.ReadFault as version
+use Rattle.vl_disk.specs.declared.read_fault.ReadFault.TheVariants as fault
 
 abbrev pub as_read_fail : KeyFail → ReadFail
 as_read_fail EmptyKey = why.EmptyKey

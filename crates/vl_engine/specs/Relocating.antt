@@ -7,12 +7,12 @@ use Rattle.std.specs.List.{All, AllByRecursion, filter}
 use Rattle.std.specs.Option.{ForSome}
 use Rattle.vl_collect.specs.Faults.{FailsLooking, MayWhere}
 use Rattle.vl_collect.specs.Passing.{HasEntries}
-use Rattle.vl_collect.specs.declared.fault.PassFault.{PassFault}
-use Rattle.vl_collect.specs.declared.fault.PassFault.TheVariants as faults
-use Rattle.vl_core.specs.MoveFacts.{AreThere, HasFailedToMove, HasMoved, move_entries, move_length, move_log}
-use Rattle.vl_core.specs.Lasts.{Lasts}
-use Rattle.vl_core.specs.Represents.{StandsFor, file_of}
-use Rattle.vl_core.specs.declared.kept.Core.{Core}
+use Rattle.vl_disk.specs.declared.read_fault.ReadFault.{ReadFault}
+use Rattle.vl_disk.specs.declared.read_fault.ReadFault.TheVariants as faults
+use Rattle.vl_engine_laws.specs.MoveFacts.{AreThere, HasFailedToMove, HasMoved, move_entries, move_length, move_log}
+use Rattle.vl_engine_laws.specs.Lasts.{Lasts}
+use Rattle.vl_engine_laws.specs.Represents.{StandsFor, file_of}
+use Rattle.vl_engine_laws.specs.declared.kept.Core.{Core}
 use Rattle.vl_disk.specs.Calls.{ChangesNothing}
 use Rattle.vl_disk.specs.Faults.{Rose}
 use Rattle.vl_disk.specs.declared.errors.DiskFail.TheVariants as disk_fails
@@ -25,14 +25,14 @@ use Rattle.vl_engine.specs.declared.fails.MoveFail.{MoveFail}
 use Rattle.vl_engine.specs.declared.open.OpenMerge.{OpenMerge}
 use Rattle.vl_engine.specs.declared.relocating.StagedMove.{StagedMove}
 use Rattle.vl_frame.specs.Runs.{HasFrame}
-use Rattle.vl_layout.specs.Decides.{Answered, Damaged, Effects, Failed, NoMemory, Outcome, no_effects}
-use Rattle.vl_layout.specs.Relocation as layout
-use Rattle.vl_layout.specs.Relocation.{Candidate, moved_of}
-use Rattle.vl_layout.specs.Rulings.Relocate as ruling
-use Rattle.vl_layout.specs.Rulings.Relocate.{MoveAnswer, Moves, moves_at, relocate_ruling, relocated}
-use Rattle.vl_layout.specs.Ruling.{Ruling}
-use Rattle.vl_layout.specs.Sources.{sources}
-use Rattle.vl_layout.specs.declared.layout.Layout.{Layout}
+use Rattle.vl_engine_model.specs.Decides.{Answered, Damaged, Effects, Failed, NoMemory, Outcome, no_effects}
+use Rattle.vl_engine_model.specs.Relocation as layout
+use Rattle.vl_engine_model.specs.Relocation.{Candidate, moved_of}
+use Rattle.vl_engine_model.specs.Rulings.Relocate as ruling
+use Rattle.vl_engine_model.specs.Rulings.Relocate.{MoveAnswer, Moves, moves_at, relocate_ruling, relocated}
+use Rattle.vl_engine_model.specs.Ruling.{Ruling}
+use Rattle.vl_engine_model.specs.Sources.{sources}
+use Rattle.vl_engine_model.specs.declared.layout.Layout.{Layout}
 use Rattle.vl_model.specs.Conflicts.{Named}
 use Rattle.vl_model.specs.Cursors.{HasRisen}
 use Rattle.vl_model.specs.Entries.{in_order}
@@ -195,7 +195,7 @@ module _ {D H R : Type 0} (g : Ghosts D) (bytes : H → Option (List ℕ)) (faul
     pub room : old.core.front.log.length + move_length moved ≤ old.core.front.room
 
   -- a read failed by this fault
-  pub record FailsAt (fault : PassFault) : Type 0 where
+  pub record FailsAt (fault : ReadFault) : Type 0 where
     pub running : old.core.front.halted ≡ None
     pub cause : FailsLooking is_disk_fault (MayWhere (Fits bytes old.core.version old.looks) (MayFailOn bytes (tables_in old.core.version)))
         (faults_of old.looks.reader) (faults_of new.looks.reader) fault

@@ -6,7 +6,7 @@ use Rattle.std.specs.List.{AllByRecursion}
 use Rattle.std.specs.Option.{ForSome}
 use Rattle.std.specs.VecDeque.{deque_len, deque_capacity}
 use Rattle.vl_compact.specs.declared.files.Lent.{Lent}
-use Rattle.vl_core.specs.declared.kept.Core.{Core}
+use Rattle.vl_engine_laws.specs.declared.kept.Core.{Core}
 use Rattle.vl_disk.specs.Disk.{Stands}
 use Rattle.vl_disk.specs.DiskState.{DiskState}
 use Rattle.vl_disk.specs.declared.name.Name.TheVariants.{Log, Manifest, Table}
@@ -17,13 +17,13 @@ use Rattle.vl_engine.specs.Collecting.{AreSealed}
 use Rattle.vl_engine.specs.Lent.{IsLent}
 use Rattle.vl_engine.specs.declared.open.OpenMerge.{OpenMerge}
 use Rattle.vl_engine.specs.declared.open.Removing.{Removing}
-use Rattle.vl_layout.specs.Jobs.{lent_numbers}
-use Rattle.vl_layout.specs.Sources.{rising, tables}
-use Rattle.vl_layout.specs.Stock.{is_in}
-use Rattle.vl_layout.specs.Tidy.{log_numbers, sealed}
-use Rattle.vl_layout.specs.declared.file_name.Retired.{Retired}
-use Rattle.vl_layout.specs.declared.layout.Layout.{Layout}
-use Rattle.vl_layout.specs.declared.table.Table as laid
+use Rattle.vl_engine_model.specs.Jobs.{lent_numbers}
+use Rattle.vl_engine_model.specs.Sources.{rising, tables}
+use Rattle.vl_engine_model.specs.Stock.{is_in}
+use Rattle.vl_engine_model.specs.Tidy.{log_numbers, sealed}
+use Rattle.vl_engine_model.specs.declared.file_name.Retired.{Retired}
+use Rattle.vl_engine_model.specs.declared.layout.Layout.{Layout}
+use Rattle.vl_engine_model.specs.declared.table.Table as laid
 use Rattle.vl_model.specs.Numbers.{has}
 use Rattle.vl_pins.specs.Files.{file_of, retired_of}
 use Rattle.vl_pins.specs.Pins.{ArePinsOf}

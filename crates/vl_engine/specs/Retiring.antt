@@ -6,7 +6,7 @@ use Rattle.std.specs.VecDeque.{deque_len, deque_capacity}
 use Rattle.vl_compact.specs.declared.files.Lent.{Lent}
 use Rattle.vl_compact.specs.declared.files.Synced.{Synced}
 use Rattle.vl_compact.specs.declared.job.Job.{Job}
-use Rattle.vl_core.specs.declared.kept.Core.{Core}
+use Rattle.vl_engine_laws.specs.declared.kept.Core.{Core}
 use Rattle.vl_engine.specs.Collecting.{head_in}
 use Rattle.vl_engine.specs.Pinning.{merge_pinned}
 use Rattle.vl_engine.specs.declared.fails.InstallFail.{InstallFail}

@@ -2,11 +2,11 @@
 use Rattle.std.specs.Prelude.{◌≡◌, ◌≤◌, ◌<◌, ℕ, List, Option, None, Some, Result, Ok, Err}
 use Rattle.vl_disk.specs.Calls.{ChangesNothing}
 use Rattle.vl_disk.specs.declared.watched.Watched.{Ghosts}
-use Rattle.vl_core.specs.RotateFacts.{HasBegun, HasStopped, IsSameCore, IsUsedUp}
+use Rattle.vl_engine_laws.specs.RotateFacts.{HasBegun, HasStopped, IsSameCore, IsUsedUp}
 use Rattle.vl_engine.specs.declared.fails.StepFail.{StepFail}
 use Rattle.vl_engine.specs.declared.fails.StepFail.TheVariants as fails
-use Rattle.vl_core.specs.declared.kept.Core.{Core}
-use Rattle.vl_layout.specs.Decides.{Effects, no_effects}
+use Rattle.vl_engine_laws.specs.declared.kept.Core.{Core}
+use Rattle.vl_engine_model.specs.Decides.{Effects, no_effects}
 
 -- the calls that change a file, where a new log was begun: a create, an append and a sync
 abbrev pub rotate_effects : Result (Option ℕ) StepFail → Effects

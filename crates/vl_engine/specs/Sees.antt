@@ -6,9 +6,9 @@ use Rattle.vl_engine.specs.Past.{ShowsPast}
 use Rattle.vl_engine.specs.declared.past.Past.{Past}
 use Rattle.vl_engine.specs.declared.txn.Txn.{Txn}
 use Rattle.vl_engine.specs.declared.view.View.{View}
-use Rattle.vl_layout.specs.Rulings.Commit.{Transaction}
-use Rattle.vl_layout.specs.Rulings.View as rulings
-use Rattle.vl_layout.specs.Shows.{Shows}
+use Rattle.vl_engine_model.specs.Rulings.Commit.{Transaction}
+use Rattle.vl_engine_model.specs.Rulings.View as rulings
+use Rattle.vl_engine_model.specs.Shows.{Shows}
 use Rattle.vl_model.specs.History.{History, last_number}
 use Rattle.vl_model.specs.Notes.{AreNotesOf}
 use Rattle.vl_model.specs.Reads.{IsExplained, Read}

@@ -4,7 +4,7 @@ use Rattle.std.specs.FinMap.{entries}
 use Rattle.vl_engine.specs.declared.staging.StagedCommit.{StagedCommit}
 use Rattle.vl_front.specs.Noting.{keys_of}
 use Rattle.vl_front.specs.declared.front.Front.{Front}
-use Rattle.vl_layout.specs.Logs.{frame_entries, logged_body}
+use Rattle.vl_engine_model.specs.Logs.{frame_entries, logged_body}
 use Rattle.vl_model.specs.Entries.{in_order}
 use Rattle.vl_model.specs.Formats.{log_format}
 use Rattle.vl_model.specs.Keys.{Writes}

@@ -1,10 +1,10 @@
 -- Steps on files: what they count, and what they come to as rulings have it.
 use Rattle.std.specs.Prelude.{ℕ, Option, None, Some, Result, Ok, Err}
-use Rattle.vl_core.specs.Represents.{file_of}
+use Rattle.vl_engine_laws.specs.Represents.{file_of}
 use Rattle.vl_engine.specs.declared.fails.StepFail.{StepFail}
 use Rattle.vl_engine.specs.declared.fails.StepFail.TheVariants as fails
-use Rattle.vl_layout.specs.Decides.{Answered, Failed, NoMemory, Outcome}
-use Rattle.vl_layout.specs.Ruling.{Exhausted, Halted, Idle, StepAnswer, Stepped}
+use Rattle.vl_engine_model.specs.Decides.{Answered, Failed, NoMemory, Outcome}
+use Rattle.vl_engine_model.specs.Ruling.{Exhausted, Halted, Idle, StepAnswer, Stepped}
 
 -- ---- what they come to
 

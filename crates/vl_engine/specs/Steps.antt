@@ -9,16 +9,16 @@ use Rattle.vl_disk.specs.declared.name.Name.{Name}
 use Rattle.vl_disk.specs.declared.name.Name.TheVariants.{Log}
 use Rattle.vl_disk.specs.declared.watched.Watched.{Ghosts}
 use Rattle.vl_engine.specs.Staging.{next_frame}
-use Rattle.vl_core.specs.Writing.{StopsWriting, WhileWriting, written}
+use Rattle.vl_engine_laws.specs.Writing.{StopsWriting, WhileWriting, written}
 use Rattle.vl_engine.specs.declared.engine.Done.{Done}
 use Rattle.vl_engine.specs.declared.engine.Done.TheVariants as done
 use Rattle.vl_engine.specs.declared.fails.CommitFail.{CommitFail}
 use Rattle.vl_engine.specs.declared.fails.CommitFail.TheVariants as fails
-use Rattle.vl_core.specs.declared.kept.Core.{Core}
+use Rattle.vl_engine_laws.specs.declared.kept.Core.{Core}
 use Rattle.vl_frame.specs.Runs.{HasFrame}
 use Rattle.vl_front.specs.Front.{IsSame, Knows}
 use Rattle.vl_front.specs.declared.front.Front.{Front}
-use Rattle.vl_layout.specs.Logs.{frame_entries}
+use Rattle.vl_engine_model.specs.Logs.{frame_entries}
 use Rattle.vl_model.specs.Entries.{in_order}
 use Rattle.vl_model.specs.Formats.{log_format}
 use Rattle.vl_model.specs.Frames.{frame_length}

@@ -6,10 +6,10 @@ use Rattle.std.specs.Option.{ForSome}
 use Rattle.std.specs.VecDeque.{deque_capacity}
 use Rattle.vl_back.specs.Writing.{IsKept}
 use Rattle.vl_compact.specs.declared.files.Lent.{Lent}
-use Rattle.vl_core.specs.Carries.{Carries, StaysUntold}
-use Rattle.vl_core.specs.MayStep.{Fits, LeavesNumbers}
-use Rattle.vl_core.specs.Represents.{Represents, StandsFor, file_of}
-use Rattle.vl_core.specs.declared.kept.Core.{Core}
+use Rattle.vl_engine_laws.specs.Carries.{Carries, StaysUntold}
+use Rattle.vl_engine_laws.specs.MayStep.{Fits, LeavesNumbers}
+use Rattle.vl_engine_laws.specs.Represents.{Represents, StandsFor, file_of}
+use Rattle.vl_engine_laws.specs.declared.kept.Core.{Core}
 use Rattle.vl_disk.specs.Calls.{ChangesNothing, Removes as RemovesFile}
 use Rattle.vl_disk.specs.Disk.{IsFree}
 use Rattle.vl_disk.specs.DiskState.{DiskState}
@@ -27,9 +27,9 @@ use Rattle.vl_engine.specs.declared.fails.SweepFail.{SweepFail}
 use Rattle.vl_engine.specs.declared.open.Collecting.{Collecting}
 use Rattle.vl_engine.specs.declared.open.OpenMerge.{OpenMerge}
 use Rattle.vl_engine.specs.declared.open.Removing.{Removing}
-use Rattle.vl_layout.specs.Decides.{Answered, Decides, Effects, Failed as FailedAt, Otherwise, Outcome, as_before, no_effects}
-use Rattle.vl_layout.specs.Rulings.Sweep.{Halted, Removed, SweepAnswer, sweep_lost, sweep_unless}
-use Rattle.vl_layout.specs.declared.layout.Layout.{Layout}
+use Rattle.vl_engine_model.specs.Decides.{Answered, Decides, Effects, Failed as FailedAt, Otherwise, Outcome, as_before, no_effects}
+use Rattle.vl_engine_model.specs.Rulings.Sweep.{Halted, Removed, SweepAnswer, sweep_lost, sweep_unless}
+use Rattle.vl_engine_model.specs.declared.layout.Layout.{Layout}
 use Rattle.vl_model.specs.History.{History}
 use Rattle.vl_pins.specs.Files.{is_up_to}
 use Rattle.vl_pins.specs.Pins.{bound_of, raised}

@@ -15,9 +15,9 @@ use Rattle.vl_disk.specs.declared.name.Name.TheVariants.{Manifest, Table as tabl
 use Rattle.vl_disk.specs.declared.name.Name.{Name}
 use Rattle.vl_disk.specs.declared.watched.Watched.{Ghosts}
 use Rattle.vl_disk.specs.declared.writer.Writer.{Ghosts as Writers}
-use Rattle.vl_layout.specs.Jobs.{AreDistinct}
-use Rattle.vl_layout.specs.declared.job.Target.{Target}
-use Rattle.vl_layout.specs.declared.table.Table as laid
+use Rattle.vl_engine_model.specs.Jobs.{AreDistinct}
+use Rattle.vl_engine_model.specs.declared.job.Target.{Target}
+use Rattle.vl_engine_model.specs.declared.table.Table as laid
 use Rattle.vl_table.specs.Tables.{shape_of}
 use Rattle.vl_table.specs.declared.table.Table.{Table}
 

@@ -1,8 +1,8 @@
 //! The engine: a disk, and what is kept of its store in memory.
 ghost use Rattle.std.specs.Prelude.{◌≡◌, ◌≤◌, None, true};
 ghost use Rattle.std.specs.Option.{ForSome};
-ghost use Rattle.vl_core.specs.Fit.{IsFitFor};
-ghost use Rattle.vl_core.specs.Known.{are_known};
+ghost use Rattle.vl_engine_laws.specs.Fit.{IsFitFor};
+ghost use Rattle.vl_engine_laws.specs.Known.{are_known};
 ghost use Rattle.vl_engine.specs.Lent.{AreLent};
 ghost use Rattle.vl_engine.specs.Removing.{IsThere};
 
@@ -24,8 +24,8 @@ mod sweeping;
 use crate::open::{Collecting, OpenMerge, Removing};
 use std::alloc::Global;
 use vl_compact::Lent;
-use vl_core::Core;
 use vl_disk::Disk;
+use vl_engine_laws::Core;
 
 /// A store that is open.
 #[derive(Drop)]

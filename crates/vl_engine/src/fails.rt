@@ -6,11 +6,9 @@ use std::alloc::AllocError;
 use thiserror::Error;
 use vl_collect::Batch;
 use vl_compact::Job;
-use vl_disk::{HeldFile, Name, NoMemory, Writer};
+use vl_disk::{HeldFile, Name, NoMemory, ReadFault, ReadFault as VersionFault, Writer};
 use vl_model::{Counter, Key};
-use vl_table::TableFault;
 use vl_txn::KeyFail;
-use vl_version::ReadFault as VersionFault;
 
 /// Why a read gave nothing. Nothing was noted or changed.
 #[derive(Clone, Copy, Debug, PartialEq, Eq, Error)]
@@ -330,12 +328,12 @@ impl From<StepFail> for MergeFail {
     }
 }
 
-impl From<TableFault> for MergeFail {
-    fn from(fault: TableFault) -> Self {
+impl From<ReadFault> for MergeFail {
+    fn from(fault: ReadFault) -> Self {
         match fault {
-            TableFault::NoMemory => MergeFail::NoMemory,
-            TableFault::Disk { name } => MergeFail::Disk { name },
-            TableFault::Damaged { name, place } => MergeFail::Damaged { name, place },
+            ReadFault::NoMemory => MergeFail::NoMemory,
+            ReadFault::Disk { name } => MergeFail::Disk { name },
+            ReadFault::Damaged { name, place } => MergeFail::Damaged { name, place },
         }
     }
 }

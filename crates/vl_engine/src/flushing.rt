@@ -5,21 +5,20 @@ ghost use Rattle.vl_back.specs.Deciding.{MayFlush};
 ghost use Rattle.vl_disk.specs.Calls.{ChangesNothing};
 ghost use Rattle.vl_disk.specs.Spare.{CanAppend, IsReady};
 ghost use Rattle.vl_disk.specs.declared.name.Name.TheVariants as names;
-ghost use Rattle.vl_core.specs.FlushFacts.{IsStagedOf};
+ghost use Rattle.vl_engine_laws.specs.FlushFacts.{IsStagedOf};
 ghost use Rattle.vl_engine.specs.Lent.{LeavesLent};
-ghost use Rattle.vl_core.specs.Represents.{Represents};
-ghost use Rattle.vl_layout.specs.declared.layout.Layout.{Layout};
+ghost use Rattle.vl_engine_laws.specs.Represents.{Represents};
+ghost use Rattle.vl_engine_model.specs.declared.layout.Layout.{Layout};
 ghost use Rattle.vl_model.specs.History.{History};
 ghost use Rattle.vl_version.specs.Flushing.{IsFlushed};
 
 use std::alloc::{AllocError, Global};
 use vl_back::{StageFail, StagedFlush};
-use vl_core::Core;
 use vl_disk::{Disk, HeldFile};
-use vl_memtable::Memtable;
+use vl_engine_laws::Core;
+use vl_memtable::{Memtable, RunCursor};
 use vl_merge::{Merge, merge_of_told_sources};
 use vl_model::{Cursor, Way};
-use vl_run::RunCursor;
 use vl_version::FlushedVersion;
 
 /// What a flush is made of, before anything of it is written.

@@ -1,9 +1,9 @@
 //! How what lives is pinned.
 ghost use Rattle.std.specs.Prelude.{◌≡◌, ◌≢◌, ℕ, Err, IfOk, OnErr, OnOk, length};
 ghost use Rattle.vl_front.specs.Front.{Knows, SameLog};
-ghost use Rattle.vl_layout.specs.Rulings.Begin.{begun as begun_there};
-ghost use Rattle.vl_layout.specs.Tickets.{free_ticket as free_there, tickets_of};
-ghost use Rattle.vl_layout.specs.declared.layout.Layout.{Layout};
+ghost use Rattle.vl_engine_model.specs.Rulings.Begin.{begun as begun_there};
+ghost use Rattle.vl_engine_model.specs.Tickets.{free_ticket as free_there, tickets_of};
+ghost use Rattle.vl_engine_model.specs.declared.layout.Layout.{Layout};
 ghost use Rattle.vl_engine.specs.Pinning.{PinsAs, PinsLive, without_pin};
 ghost use Rattle.vl_model.specs.History.{History};
 ghost use Rattle.vl_model.specs.Limits.{max_live};

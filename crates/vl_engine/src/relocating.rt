@@ -10,7 +10,7 @@ ghost use Rattle.vl_disk.specs.declared.name.Name.TheVariants as names;
 ghost use Rattle.vl_engine.specs.Lent.{LeavesTables};
 ghost use Rattle.vl_engine.specs.Relocating.{Finds, HasRoomBehind, IsNotes, IsStagedMove};
 ghost use Rattle.vl_engine.specs.Relocating.{MayMove, NotesMoves, may_add, move_entries_of, moved_entry};
-ghost use Rattle.vl_core.specs.MoveFacts.{move_length};
+ghost use Rattle.vl_engine_laws.specs.MoveFacts.{move_length};
 ghost use Rattle.vl_model.specs.Entries as order;
 ghost use Rattle.vl_table.specs.CursorParts.{MayFailOn, is_disk_fault};
 ghost use Rattle.vl_version.specs.Bases.{Fits};
@@ -18,12 +18,11 @@ ghost use Rattle.vl_version.specs.Sources.{tables_in};
 
 use crate::open::OpenMerge;
 use std::alloc::{AllocError, Global};
-use vl_collect::{Batch, PassFault, still_moved};
-use vl_core::Core;
-use vl_disk::{Disk, HeldFile, NoMemory, Reader};
-use vl_memtable::Memtable;
+use vl_collect::{Batch, still_moved};
+use vl_disk::{Disk, HeldFile, NoMemory, ReadFault, Reader};
+use vl_engine_laws::Core;
+use vl_memtable::{Memtable, Run};
 use vl_model::{Body, Entry, Key, Moved, Pointer};
-use vl_run::Run;
 use vl_seglog::Staged;
 use vl_table::BlockReader;
 use vl_version::Base;
@@ -50,7 +49,7 @@ pub fn records_to_move<H: HeldFile, R: Reader<Held = H>>(
     segment: u32,
     batch: &Batch,
     looks: &mut BlockReader<R>,
-) -> Result<Vec<Moved>, PassFault>
+) -> Result<Vec<Moved>, ReadFault>
     ensures same { core.new ≡ core.old }
     ensures finds { IfOk result (λ moved. Finds H.bytes core.old segment batch.now looks.old moved.items) }
     ensures may { IfOk result (λ moved. 1 ≤ length moved.items → MayMove core.old moved.items) }

@@ -8,13 +8,13 @@ ghost use Rattle.vl_disk.specs.declared.errors.DiskFail.TheVariants as why;
 ghost use Rattle.vl_disk.specs.declared.name.Name.TheVariants as names;
 ghost use Rattle.vl_engine.specs.Lent.{LeavesTables};
 ghost use Rattle.vl_engine.specs.Rotating.{IsRefusedSo};
-ghost use Rattle.vl_core.specs.RotateFacts.{IsNextVersion, MayBegin, next_name};
+ghost use Rattle.vl_engine_laws.specs.RotateFacts.{IsNextVersion, MayBegin, next_name};
 
 use crate::StepFail;
 use std::alloc::Global;
 use vl_back::Decision;
-use vl_core::Core;
 use vl_disk::{Disk, DiskFail, HeldFile, Name};
+use vl_engine_laws::Core;
 use vl_seglog::{ActiveLog, LOG_HEADER_BYTES};
 use vl_version::Version;
 

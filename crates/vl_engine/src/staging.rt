@@ -4,7 +4,7 @@ ghost use Rattle.std.specs.FinMap.{entries, is_sorted};
 ghost use Rattle.vl_disk.specs.Calls.{ChangesNothing};
 ghost use Rattle.vl_disk.specs.Spare.{CanAppend};
 ghost use Rattle.vl_disk.specs.declared.name.Name.TheVariants as names;
-ghost use Rattle.vl_core.specs.Known.{are_known};
+ghost use Rattle.vl_engine_laws.specs.Known.{are_known};
 ghost use Rattle.vl_engine.specs.Lent.{LeavesTables};
 ghost use Rattle.vl_engine.specs.Staging.{IsStagedCommit, LeadTo, commit_entries, write_entry};
 ghost use Rattle.vl_front.specs.Decisions.{MayWrite};
@@ -12,11 +12,10 @@ ghost use Rattle.vl_front.specs.Front.{IsSame};
 ghost use Rattle.vl_model.specs.Keys.{key_cmp};
 
 use std::alloc::{AllocError, Global};
-use vl_core::Core;
 use vl_disk::{Disk, HeldFile, NoMemory};
-use vl_memtable::Memtable;
+use vl_engine_laws::Core;
+use vl_memtable::{Memtable, Run};
 use vl_model::{Body, Change, Entry, Key, Pointer};
-use vl_run::Run;
 use vl_seglog::Staged;
 use vl_txn::Writes;
 

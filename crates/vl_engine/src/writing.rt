@@ -9,7 +9,7 @@ ghost use Rattle.vl_disk.specs.Moments.{Elapses};
 ghost use Rattle.vl_disk.specs.Spare.{CanAppend};
 ghost use Rattle.vl_seglog.specs.Staging.{IsStagedFor};
 ghost use Rattle.vl_engine.specs.Lent.{LeavesTables};
-ghost use Rattle.vl_core.specs.Writing.{StopsWriting, WhileWriting, written};
+ghost use Rattle.vl_engine_laws.specs.Writing.{StopsWriting, WhileWriting, written};
 
 use vl_disk::{Disk, Failed};
 use vl_seglog::{ActiveLog, Staged};

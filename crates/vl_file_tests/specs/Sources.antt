@@ -5,8 +5,8 @@ use Rattle.std.specs.Prelude.{◌≡◌, ℕ, List, length, Option, Some}
 use Rattle.vl_model.specs.declared.entry.Entry.{Entry}
 use Rattle.vl_table.specs.CursorLeft.{cursor_budget, cursor_left}
 use Rattle.vl_table.specs.CursorParts.{MayFailOn}
-use Rattle.vl_table.specs.declared.fault.TableFault.{TableFault}
-use Rattle.vl_table.specs.declared.fault.TableFault.TheVariants.{NoMemory}
+use Rattle.vl_disk.specs.declared.read_fault.ReadFault.{ReadFault}
+use Rattle.vl_disk.specs.declared.read_fault.ReadFault.TheVariants.{NoMemory}
 use Rattle.vl_file_tests.specs.declared.source.Source.{Source}
 use Rattle.vl_file_tests.specs.declared.source.Source.TheVariants.{Memory, Table}
 
@@ -19,6 +19,6 @@ module _ {H R : Type 0} {g : HeldFile.Ghosts H} {k : Clone.Ghosts H} where
   source_budget (Memory es) = length es
   source_budget (Table c) = cursor_budget c
 
-  abbrev pub SourceMayFail : (H → Option (List ℕ)) → Source H R g k → TableFault → Type 0
+  abbrev pub SourceMayFail : (H → Option (List ℕ)) → Source H R g k → ReadFault → Type 0
   SourceMayFail bytes_of (Memory es) fault = fault ≡ NoMemory
   SourceMayFail bytes_of (Table c) fault = MayFailOn bytes_of c.tables.items fault

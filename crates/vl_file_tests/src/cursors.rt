@@ -4,10 +4,10 @@ use crate::disk::{failing, open, versions_of, whole};
 use crate::tables::{FILTERED, flipped};
 use std::alloc::Global;
 use std::test::Fail;
-use vl_disk::Name;
+use vl_disk::{Name, ReadFault};
 use vl_mem::{MemHeld, MemReader};
 use vl_model::{Bytes, Cursor, Span, Way};
-use vl_table::{Table, TableCursor, TableFault};
+use vl_table::{Table, TableCursor};
 
 type TestCursor = TableCursor<MemHeld, MemReader>;
 
@@ -25,7 +25,7 @@ fn cursor(alloc: Global, span: Span, way: Way) -> Result<TestCursor, Fail> {
 }
 
 // The version of the next entry, if one is left.
-fn next(cursor: &mut TestCursor, reader: &mut MemReader) -> Result<Option<u64>, TableFault> {
+fn next(cursor: &mut TestCursor, reader: &mut MemReader) -> Result<Option<u64>, ReadFault> {
     match cursor.next(reader)? {
         Some(entry) => Ok(Some(entry.version)),
         None => Ok(None),
@@ -97,7 +97,7 @@ fn damaged_cursor(alloc: Global) -> Result<TestCursor, Fail> {
 
 fn is_damaged(cursor: &mut TestCursor, reader: &mut MemReader) -> bool {
     next(cursor, reader)
-        == Err(TableFault::Damaged {
+        == Err(ReadFault::Damaged {
             name: Name::Table(1),
             place: 16,
         })

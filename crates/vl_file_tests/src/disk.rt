@@ -4,12 +4,10 @@
 use std::alloc::{AllocError, Global};
 use std::sync::Arc;
 use std::test::Fail;
-use vl_block::TableShape;
-use vl_disk::{FaultPlan, Name};
+use vl_disk::{FaultPlan, Name, ReadFault};
 use vl_mem::{MemHeld, MemReader};
 use vl_model::{Body, Bytes, Entry, Pointer, Span, Value};
-use vl_table::{BlockReader, KEPT_BLOCKS, Table, TableFault};
-use vl_table_writer::{AddFail, TableWriter, Tail};
+use vl_table::{AddFail, BlockReader, KEPT_BLOCKS, Table, TableShape, TableWriter, Tail};
 
 // The file of a table with this number and these bytes.
 pub fn held(alloc: Global, number: u32, bytes: &[u8]) -> Result<MemHeld, AllocError> {
@@ -28,13 +26,13 @@ pub fn open_by(
     reader: &mut MemReader,
     number: u32,
     bytes: &[u8],
-) -> Result<Table<MemHeld>, TableFault> {
+) -> Result<Table<MemHeld>, ReadFault> {
     let held = held(alloc, number, bytes)?;
     Table::open(alloc, reader, held, number)
 }
 
 // The table with this number and these bytes.
-pub fn open(alloc: Global, number: u32, bytes: &[u8]) -> Result<Table<MemHeld>, TableFault> {
+pub fn open(alloc: Global, number: u32, bytes: &[u8]) -> Result<Table<MemHeld>, ReadFault> {
     let mut reader = failing(alloc, &[])?;
     open_by(alloc, &mut reader, number, bytes)
 }
@@ -156,7 +154,7 @@ pub fn versions_of(
 }
 
 // The version that a look-up finds, if it finds one.
-pub type Answer = Result<Option<u64>, TableFault>;
+pub type Answer = Result<Option<u64>, ReadFault>;
 
 // What is found of a key up to a version.
 pub fn find(
@@ -186,5 +184,5 @@ pub fn exact(
 
 // Whether reading failed, and not otherwise.
 pub fn is_disk_fault(answer: &Answer) -> bool {
-    matches!(answer, Err(TableFault::Disk { .. }))
+    matches!(answer, Err(ReadFault::Disk { .. }))
 }

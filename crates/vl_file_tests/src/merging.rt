@@ -5,11 +5,12 @@ use crate::source::Source;
 use crate::tables::TABLE;
 use std::alloc::Global;
 use std::test::Fail;
+use vl_disk::ReadFault;
 use vl_mem::{MemHeld, MemReader};
+use vl_memtable::{Run, RunCursor};
 use vl_merge::Merge;
 use vl_model::{Cursor, Way};
-use vl_run::{Run, RunCursor};
-use vl_table::{TableCursor, TableFault};
+use vl_table::TableCursor;
 
 type TestSource = Source<MemHeld, MemReader>;
 
@@ -39,7 +40,7 @@ fn merge(alloc: Global) -> Result<Merge<TestSource>, Fail> {
 }
 
 // The version of the next entry, if one is left.
-fn next(merge: &mut Merge<TestSource>, reader: &mut MemReader) -> Result<Option<u64>, TableFault> {
+fn next(merge: &mut Merge<TestSource>, reader: &mut MemReader) -> Result<Option<u64>, ReadFault> {
     match merge.next(reader)? {
         Some(entry) => Ok(Some(entry.version)),
         None => Ok(None),

@@ -4,7 +4,7 @@ use crate::disk::{far, gone, shaped, write};
 use std::alloc::{AllocError, Global};
 use std::test::Fail;
 use vl_compact::{Inputs, drained, planned};
-use vl_layout::Target;
+use vl_engine_model::Target;
 use vl_mem::MemHeld;
 use vl_model::Entry;
 use vl_table::Table;

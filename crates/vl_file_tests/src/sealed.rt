@@ -5,10 +5,10 @@ ghost use Rattle.std.specs.Prelude.{◌≡◌};
 use crate::disk::failing;
 use std::alloc::{AllocError, Global};
 use std::test::Fail;
-use vl_disk::Name;
+use vl_disk::{Name, ReadFault};
 use vl_mem::{MemHeld, MemReader};
 use vl_model::Pointer;
-use vl_seglog::{Filled, Frame, LogFault, Said, SealedLog, read_log};
+use vl_seglog::{Filled, Frame, Said, SealedLog, read_log};
 
 // Log 1 with a commit and a relocation, as docs/FORMATS.md has them.
 const LOG: [u8; 86] = [
@@ -101,7 +101,7 @@ fn is_damaged(
     requires { pointer.segment ≡ log.now.number }
 {
     match log.read_at(alloc, reader, pointer, key) {
-        Err(LogFault::Damaged { place, .. }) => place == pointer.place,
+        Err(ReadFault::Damaged { place, .. }) => place == pointer.place,
         _ => false,
     }
 }
@@ -157,7 +157,7 @@ fn first_record(
     log: &SealedLog<MemHeld>,
     reader: &mut MemReader,
     place: u64,
-) -> Result<Option<Pointer>, LogFault> {
+) -> Result<Option<Pointer>, ReadFault> {
     match log.scan_from(alloc, reader, place)? {
         Some(frame) => Ok(first_of(&frame)),
         None => Ok(None),
@@ -170,7 +170,7 @@ fn scans(alloc: Global, log: &SealedLog<MemHeld>, reader: &mut MemReader) -> boo
         && first_record(alloc, log, reader, 86) == Ok(None)
         && matches!(
             first_record(alloc, log, reader, 52),
-            Err(LogFault::Damaged { place: 52, .. })
+            Err(ReadFault::Damaged { place: 52, .. })
         )
 }
 

@@ -6,8 +6,7 @@ use std::alloc::Global;
 use std::test::Fail;
 use vl_mem::{MemHeld, MemReader};
 use vl_model::Entry;
-use vl_table::{BlockReader, Table};
-use vl_table_writer::{AddFail, TableWriter, Tail};
+use vl_table::{AddFail, BlockReader, Table, TableWriter, Tail};
 
 fn write_one(alloc: Global, out: &mut Vec<u8>, key: &[u8]) -> Result<Tail, Fail> {
     let entries = [gone(alloc, key, 1)?];

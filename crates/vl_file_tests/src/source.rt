@@ -3,10 +3,10 @@
 ghost use Rattle.vl_table.specs.CursorParts.{is_disk_fault};
 ghost use Rattle.vl_file_tests.specs.Sources.{SourceMayFail, source_budget, source_left};
 
-use vl_disk::{HeldFile, Reader};
+use vl_disk::{HeldFile, ReadFault, Reader};
+use vl_memtable::RunCursor;
 use vl_model::{Cursor, Entry};
-use vl_run::RunCursor;
-use vl_table::{TableCursor, TableFault};
+use vl_table::TableCursor;
 
 /// A source of a merge.
 #[derive(Drop)]
@@ -16,7 +16,7 @@ pub enum Source<H: HeldFile, R> {
 }
 
 impl<H: HeldFile, R: Reader<Held = H> + Drop> Cursor for Source<H, R> {
-    type Fault = TableFault;
+    type Fault = ReadFault;
 
     type Reader = R;
 
@@ -30,7 +30,7 @@ impl<H: HeldFile, R: Reader<Held = H> + Drop> Cursor for Source<H, R> {
 
     ghost may_fail = { λ s fault. SourceMayFail H.bytes s fault };
 
-    fn next(&mut self, reader: &mut R) -> Result<Option<Entry>, TableFault> {
+    fn next(&mut self, reader: &mut R) -> Result<Option<Entry>, ReadFault> {
         match self {
             Source::Memory(run) => Ok(run.next(&mut ())?),
             Source::Table(table) => table.next(reader),

@@ -3,10 +3,9 @@
 use crate::disk::{blocks, exact, far, find, open, valued, written};
 use std::alloc::{AllocError, Global};
 use std::test::Fail;
-use vl_block::FoundBody;
-use vl_disk::Name;
+use vl_disk::{Name, ReadFault};
 use vl_mem::{MemHeld, MemReader};
-use vl_table::{BlockReader, Table, TableFault};
+use vl_table::{BlockReader, FoundBody, Table};
 
 // Table 1 of docs/FORMATS.md in format 1.
 pub const TABLE: [u8; 241] = [
@@ -92,7 +91,7 @@ fn a_table_has_its_bytes(rt: HostRuntime) -> Result<(), Fail> {
 fn tag(
     table: &Table<MemHeld>,
     reader: &mut BlockReader<MemReader>,
-) -> Result<Option<u8>, TableFault> {
+) -> Result<Option<u8>, ReadFault> {
     match table.exact(reader, b"a", 1)? {
         Some(found) => Ok(tag_of(&found.body)),
         None => Ok(None),
@@ -113,7 +112,7 @@ fn has_both(table: &Table<MemHeld>, reader: &mut BlockReader<MemReader>, wanted:
 }
 
 // Whether the keys a and b are found in a table, and the tag of a's value is this.
-fn finds_both(alloc: Global, bytes: &[u8], wanted: u8) -> Result<bool, TableFault> {
+fn finds_both(alloc: Global, bytes: &[u8], wanted: u8) -> Result<bool, ReadFault> {
     let table = open(alloc, 1, bytes)?;
     let mut reader = blocks(alloc, &[])?;
     Ok(has_both(&table, &mut reader, wanted))
@@ -129,7 +128,7 @@ fn entries_are_found_in_tables_of_each_format(rt: HostRuntime) -> Result<(), Fai
 }
 
 // What it comes to that a table with these bytes is opened, and its first key looked up.
-fn look_up(alloc: Global, bytes: &[u8]) -> Result<(), TableFault> {
+fn look_up(alloc: Global, bytes: &[u8]) -> Result<(), ReadFault> {
     let table = open(alloc, 1, bytes)?;
     let mut reader = blocks(alloc, &[])?;
     find(&table, &mut reader, b"a", 1)?;
@@ -138,7 +137,7 @@ fn look_up(alloc: Global, bytes: &[u8]) -> Result<(), TableFault> {
 
 // Whether the table is damaged at this place.
 fn is_damaged(alloc: Global, bytes: &[u8], place: u64) -> bool {
-    let damage = TableFault::Damaged {
+    let damage = ReadFault::Damaged {
         name: Name::Table(1),
         place,
     };

@@ -4,11 +4,12 @@ use crate::disk::{blocks, open, versions_of};
 use crate::tables::FILTERED;
 use std::alloc::Global;
 use std::test::Fail;
+use vl_disk::ReadFault;
 use vl_mem::{MemHeld, MemReader};
 use vl_model::Way;
 use vl_table::{BlockReader, Table};
 use vl_txn::Writes;
-use vl_version::{Found, Levels, ReadFault, Version, Wanted};
+use vl_version::{Found, Levels, Version, Wanted};
 
 fn push_both(alloc: Global, tables: &mut Vec<Table<MemHeld>>) -> Result<(), Fail> {
     tables.push(versions_of(alloc, 2, b"a", &[5])?)?;

@@ -6,8 +6,7 @@ use std::alloc::{AllocError, Global};
 use std::test::Fail;
 use vl_mem::{MemHeld, MemReader};
 use vl_model::Entry;
-use vl_table::{BlockReader, Table};
-use vl_table_writer::AddFail;
+use vl_table::{AddFail, BlockReader, Table};
 
 fn push_versions(alloc: Global, entries: &mut Vec<Entry>) -> Result<(), AllocError> {
     for past in 0..100u64 {

@@ -4,7 +4,7 @@ use Rattle.std.proofs.lemmas.List.{drop_all}
 use Rattle.std.specs.declared.cmp.Ordering.TheVariants.{Less, Equal, Greater}
 use Rattle.vl_model.specs.Entries.{by_order, entry_cmp, in_order, put}
 use Rattle.vl_model.specs.declared.entry.Entry.{Entry}
-use Rattle.vl_run.specs.laws.OrderLaws.{in_order-back, in_order-front}
+use Rattle.vl_model.specs.laws.OrderLaws.{in_order-back, in_order-front}
 use Rattle.vl_memtable.specs.Contents.{all_of}
 use Rattle.vl_memtable.proofs.RunLists.{drop_next}
 

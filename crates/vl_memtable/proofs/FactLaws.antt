@@ -14,9 +14,9 @@ use Rattle.vl_model.specs.Reads.{is_in_span}
 use Rattle.vl_model.specs.declared.span.Span.{Span}
 use Rattle.vl_model.specs.declared.way.Way.{Way}
 use Rattle.vl_model.specs.declared.way.Way.TheVariants.{Up, Down}
-use Rattle.vl_run.specs.Order.{IsInOrder, along, within}
-use Rattle.vl_run.specs.laws.OrderLaws.{IsBefore, IsRising, rising}
-use Rattle.vl_merge.specs.Merging.{IsFirst, IsAlong}
+use Rattle.vl_model.specs.EntryOrder.{IsInOrder, along, within}
+use Rattle.vl_model.specs.laws.OrderLaws.{IsBefore, IsRising, rising}
+use Rattle.vl_model.specs.Merging.{IsFirst, IsAlong}
 use Rattle.vl_model.specs.Order.{way_cmp}
 use Rattle.vl_memtable.specs.Contents.{Contents, all_of, contents_of, AreRuns, GiveAll, GiveWithin}
 use Rattle.vl_memtable.specs.Lengths.{doubles}

@@ -1,3 +1,6 @@
+mod Along
 mod AsOne
 mod FactLaws
+mod MergeSteps
 mod RunLists
+mod Spans

@@ -13,11 +13,11 @@ use Rattle.vl_model.specs.Entries.{entry_cmp, put, in_order, is_at}
 use Rattle.vl_model.specs.Winners.{winner, exact, newest_of}
 use Rattle.vl_model.specs.laws.WinnerLaws.{winner-append}
 use Rattle.vl_model.specs.declared.entry.Entry.{Entry}
-use Rattle.vl_run.specs.Order.{IsInOrder}
-use Rattle.vl_run.specs.laws.OrderLaws.{IsRising, rising, in_order-front, in_order-back, length-in_order, put-less, put-greater}
-use Rattle.vl_run.specs.laws.Lookup.{is_at-tied, exact-behind}
-use Rattle.vl_run.specs.laws.Exact.{exact-append, exact-in_order}
-use Rattle.vl_run.specs.Lookups.{or_else}
+use Rattle.vl_model.specs.EntryOrder.{IsInOrder}
+use Rattle.vl_model.specs.laws.OrderLaws.{IsRising, rising, in_order-front, in_order-back, length-in_order, put-less, put-greater}
+use Rattle.vl_model.specs.laws.Lookup.{is_at-tied, exact-behind}
+use Rattle.vl_model.specs.laws.Exact.{exact-append, exact-in_order}
+use Rattle.vl_model.specs.Lookups.{or_else}
 use Rattle.vl_memtable.specs.Contents.{all_of, IsApart, AreRuns, IsNewTo}
 use Rattle.vl_memtable.specs.Lengths.{lengths_with, doubles}
 

@@ -6,8 +6,8 @@ use Rattle.vl_model.specs.Winners.{exact}
 use Rattle.vl_model.specs.declared.entry.Entry.{Entry}
 use Rattle.vl_model.specs.declared.span.Span.{Span}
 use Rattle.vl_model.specs.declared.way.Way.{Way}
-use Rattle.vl_run.specs.Order.{IsInOrder, along, within}
-use Rattle.vl_merge.specs.Merging.{IsAlong}
+use Rattle.vl_model.specs.EntryOrder.{IsInOrder, along, within}
+use Rattle.vl_model.specs.Merging.{IsAlong}
 use Rattle.vl_memtable.specs.Lengths.{doubles}
 
 -- the entries in order, and the lengths of the runs, the newest first

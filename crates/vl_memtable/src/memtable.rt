@@ -7,11 +7,10 @@ ghost use Rattle.vl_memtable.specs.Facts.{HasFewRuns};
 ghost use Rattle.vl_memtable.specs.Lengths.{lengths_with};
 
 use crate::over::over;
-use crate::runs;
+use crate::{Run, RunCursor, runs};
 use std::alloc::{AllocError, Global};
 use std::marker::Model;
 use vl_model::{Entry, Span, Way};
-use vl_run::{Run, RunCursor};
 
 /// Entries in order, as a list of runs that older memtables share.
 #[derive(Drop)]

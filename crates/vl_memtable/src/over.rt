@@ -3,8 +3,8 @@ ghost use Rattle.std.specs.Prelude.{◌≡◌, ◌++◌, ◌<◌, length, IfOk};
 ghost use Rattle.vl_model.specs.Entries.{in_order};
 ghost use Rattle.vl_memtable.specs.Contents.{all_of, AreRuns};
 
+use crate::Run;
 use std::alloc::{AllocError, Global};
-use vl_run::Run;
 
 // A run over these, as one run. Of those of one key and version its own entry counts.
 pub fn over(alloc: Global, runs: &[Run], run: Run) -> Result<Vec<Run>, AllocError>

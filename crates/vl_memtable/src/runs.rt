@@ -3,13 +3,13 @@ ghost use Rattle.std.specs.Prelude.{◌≡◌, ◌++◌, ◌<◌, length, map, I
 ghost use Rattle.std.specs.Option.{option_copied};
 ghost use Rattle.vl_model.specs.Entries.{in_order};
 ghost use Rattle.vl_model.specs.Winners.{winner, exact};
-ghost use Rattle.vl_run.specs.Order.{along, within};
+ghost use Rattle.vl_model.specs.EntryOrder.{along, within};
 ghost use Rattle.vl_memtable.specs.Contents.{all_of, AreRuns, IsNewTo};
 ghost use Rattle.vl_memtable.specs.Lengths.{lengths_with};
 
+use crate::{Run, RunCursor};
 use std::alloc::{AllocError, Global};
 use vl_model::{Entry, Span, Way, newest_ref};
-use vl_run::{Run, RunCursor};
 
 // These runs with one more. As long as the first has less than twice the entries of the new one, it
 // joins that.

@@ -10,7 +10,7 @@ use Rattle.vl_model.specs.laws.WinnerLaws.{same_key}
 use Rattle.vl_model.specs.declared.entry.Entry.{Entry}
 use Rattle.vl_model.specs.declared.way.Way.{Way}
 use Rattle.vl_model.specs.declared.way.Way.TheVariants.{Up, Down}
-use Rattle.vl_merge.specs.Merging.{merged, IsFirst, IsAlong}
+use Rattle.vl_model.specs.Merging.{merged, IsFirst, IsAlong}
 use Rattle.vl_model.specs.Order.{way_cmp}
 use Rattle.vl_merge.proofs.MergeLaws.{along-merged}
 use Rattle.vl_merge.specs.MergeOf.{end_to_end}

@@ -16,7 +16,7 @@ use Rattle.vl_model.specs.laws.WinnerLaws.{winner-append, winner-put, same_key, 
 use Rattle.vl_model.specs.declared.entry.Entry.{Entry}
 use Rattle.vl_model.specs.declared.way.Way.{Way}
 use Rattle.vl_model.specs.declared.way.Way.TheVariants.{Up, Down}
-use Rattle.vl_merge.specs.Merging.{place, merged, IsFirst, IsAlong}
+use Rattle.vl_model.specs.Merging.{place, merged, IsFirst, IsAlong}
 use Rattle.vl_model.specs.Order.{way_cmp}
 
 entry_total : IsTotalOrder entry_cmp

@@ -12,7 +12,7 @@ use Rattle.vl_model.specs.laws.WinnerLaws.{same_key}
 use Rattle.vl_model.specs.declared.entry.Entry.{Entry}
 use Rattle.vl_model.specs.declared.way.Way.{Way}
 use Rattle.std.specs.Ordering.{is_gt}
-use Rattle.vl_merge.specs.Merging.{IsFirst, IsAlong}
+use Rattle.vl_model.specs.Merging.{IsFirst, IsAlong}
 use Rattle.vl_model.specs.Order.{way_cmp}
 use Rattle.vl_merge.proofs.GroupLaws.{grouped-along}
 use Rattle.vl_merge.specs.declared.hides.Hides.{Hides}

@@ -8,7 +8,7 @@ use Rattle.std.specs.Cmp.{upto}
 use Rattle.vl_model.specs.Cursors.{Gives, Keeps}
 use Rattle.vl_model.specs.declared.entry.Entry.{Entry}
 use Rattle.vl_model.specs.declared.way.Way.{Way}
-use Rattle.vl_merge.specs.Merging.{merged, IsFirst, IsAlong}
+use Rattle.vl_model.specs.Merging.{merged, IsFirst, IsAlong}
 use Rattle.vl_model.specs.Order.{way_cmp}
 use Rattle.vl_merge.proofs.MergeLaws.{way_total, first-all, merged-first}
 use Rattle.vl_merge.specs.MergeOf.{is_first, is_along, end_to_end, merge_of, pair_of}

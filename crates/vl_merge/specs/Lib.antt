@@ -3,7 +3,6 @@ pub mod Grouped
 pub mod Held
 pub mod Marked
 pub mod MergeOf
-pub mod Merging
 pub mod ReadAhead
 pub mod Trees
 pub mod Visible

@@ -4,7 +4,7 @@ use Rattle.std.specs.Option.{option_map}
 use Rattle.std.specs.Ordering.{is_gt}
 use Rattle.vl_model.specs.declared.entry.Entry.{Entry}
 use Rattle.vl_model.specs.declared.way.Way.{Way}
-use Rattle.vl_merge.specs.Merging.{merged}
+use Rattle.vl_model.specs.Merging.{merged}
 use Rattle.vl_model.specs.Order.{way_cmp}
 
 abbrev pub is_first : Way → Entry → List Entry → Bool

@@ -5,7 +5,7 @@ ghost use Rattle.std.specs.Ordering.{is_gt};
 ghost use Rattle.vl_model.specs.Winners.{winner, exact};
 ghost use Rattle.vl_model.specs.declared.entry.Entry.{Entry};
 ghost use Rattle.vl_model.specs.declared.way.Way.{Way};
-ghost use Rattle.vl_merge.specs.Merging.{merged, IsFirst, IsAlong};
+ghost use Rattle.vl_model.specs.Merging.{merged, IsFirst, IsAlong};
 ghost use Rattle.vl_model.specs.Order.{way_cmp};
 ghost use Rattle.vl_merge.specs.MergeOf.{merge_of};
 

@@ -2,7 +2,7 @@ ghost use Rattle.std.specs.Prelude.{◌≡◌, ℕ, Bool, List, IfOk, IfErr, Mat
 ghost use Rattle.vl_model.specs.Winners.{exact};
 ghost use Rattle.vl_model.specs.Cursors.{IsCounted};
 ghost use Rattle.vl_merge.specs.Marked.{Marked, all_of, is_first_outside, outside_of};
-ghost use Rattle.vl_merge.specs.Merging.{has_older};
+ghost use Rattle.vl_model.specs.Merging.{has_older};
 
 use vl_model::Entry;
 

@@ -5,8 +5,8 @@ ghost use Rattle.vl_merge.specs.Held.{visible_left, held_budget};
 ghost use Rattle.vl_merge.specs.Visible.{visible};
 ghost use Rattle.vl_merge.specs.declared.hides.Hides.TheVariants.{Gone};
 
-use crate::{Hides, Merge};
 use crate::held::{only_shown, pass};
+use crate::{Hides, Merge};
 use vl_model::{Cursor, Entry};
 
 /// Of the entries of a merge each key's winner at a number, deletions passed over, as the merge goes.
@@ -35,7 +35,13 @@ impl<C: Cursor + Drop> Cursor for Visible<C> {
     ghost may_fail = { λ v f. ⟦<Merge<C> as Cursor>⟧.may_fail v.merge f };
 
     fn next(&mut self, reader: &mut C::Reader) -> Result<Option<Entry>, C::Fault> {
-        next_visible(&mut self.merge, &mut self.held, self.number, self.hides, reader)
+        next_visible(
+            &mut self.merge,
+            &mut self.held,
+            self.number,
+            self.hides,
+            reader,
+        )
     }
 }
 

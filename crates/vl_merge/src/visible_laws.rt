@@ -6,7 +6,7 @@ ghost use Rattle.vl_model.specs.Keys.{key_cmp};
 ghost use Rattle.vl_model.specs.Winners.{winner};
 ghost use Rattle.vl_model.specs.declared.entry.Entry.{Entry};
 ghost use Rattle.vl_model.specs.declared.way.Way.{Way};
-ghost use Rattle.vl_merge.specs.Merging.{merged, IsAlong};
+ghost use Rattle.vl_model.specs.Merging.{merged, IsAlong};
 ghost use Rattle.vl_merge.specs.declared.hides.Hides.{Hides};
 ghost use Rattle.vl_merge.specs.Visible.{shown, visible};
 

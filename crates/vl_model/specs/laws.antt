@@ -1,6 +1,13 @@
 pub mod ConflictLaws
+pub mod CuttingLaws
+pub mod Exact
 pub mod ExplainedLaws
 pub mod HistoryLaws
+pub mod Lookup
+pub mod LookupLaws
 pub mod NumberLaws
+pub mod OrderLaws
+pub mod PartLaws
+pub mod Places
 pub mod VersionLaws
 pub mod WinnerLaws

@@ -15,6 +15,7 @@ mod limits;
 mod log_frame;
 mod newest;
 mod order;
+mod point;
 mod pointer;
 mod span;
 mod value;
@@ -43,6 +44,7 @@ pub use limits::{
 pub use log_frame::{LogFrame, Moved};
 pub use newest::{newest_of, newest_ref};
 pub use order::{Place, entry_order, place_order};
+pub use point::Point;
 pub use pointer::Pointer;
 pub use span::Span;
 pub use value::Value;

@@ -5,10 +5,10 @@ use Rattle.std.specs.List.{filter}
 use Rattle.std.specs.VecDeque.{deque_len, deque_capacity}
 use Rattle.vl_disk.specs.declared.name.Name.TheVariants as names
 use Rattle.vl_disk.specs.declared.name.Name.{Name}
-use Rattle.vl_layout.specs.Ruling.{retired_at}
-use Rattle.vl_layout.specs.declared.file_name.FileName.TheVariants as files
-use Rattle.vl_layout.specs.declared.file_name.FileName.{FileName}
-use Rattle.vl_layout.specs.declared.file_name.Retired.{Retired}
+use Rattle.vl_engine_model.specs.Ruling.{retired_at}
+use Rattle.vl_engine_model.specs.declared.file_name.FileName.TheVariants as files
+use Rattle.vl_engine_model.specs.declared.file_name.FileName.{FileName}
+use Rattle.vl_engine_model.specs.declared.file_name.Retired.{Retired}
 use Rattle.vl_model.specs.Numbers.{has}
 use Rattle.vl_pins.specs.InUse.{but}
 use Rattle.vl_pins.specs.declared.in_use.InUse.{InUse}

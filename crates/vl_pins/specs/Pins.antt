@@ -1,10 +1,10 @@
 -- Which version numbers are pinned, and that they are those of a layout.
 use Rattle.std.specs.Prelude.{◌≡◌, ◌≤◌, ℕ, max, min, List, map, Option, Some, None}
 use Rattle.std.specs.Option.{option_map}
-use Rattle.vl_layout.specs.declared.job.OpenJob.{OpenJob}
-use Rattle.vl_layout.specs.declared.job.OpenPass.{OpenPass}
-use Rattle.vl_layout.specs.declared.layout.Layout.{Layout}
-use Rattle.vl_layout.specs.declared.live.Live.{Live}
+use Rattle.vl_engine_model.specs.declared.job.OpenJob.{OpenJob}
+use Rattle.vl_engine_model.specs.declared.job.OpenPass.{OpenPass}
+use Rattle.vl_engine_model.specs.declared.layout.Layout.{Layout}
+use Rattle.vl_engine_model.specs.declared.live.Live.{Live}
 use Rattle.vl_oracle.specs.LiveTickets.{LiveTickets, Ticket, advanced, floor_of}
 use Rattle.vl_pins.specs.declared.pins.Pins.{Pins}
 

@@ -1,12 +1,12 @@
 // Laws of pins: each is the contract of a function that does nothing.
 ghost use Rattle.std.specs.Prelude.{◌≡◌, ◌≤◌, ℕ, nat_le, not};
-ghost use Rattle.vl_layout.specs.Rising.{IsRising};
-ghost use Rattle.vl_layout.specs.Ruling.{ended};
-ghost use Rattle.vl_layout.specs.Rulings.Begin.{begun};
-ghost use Rattle.vl_layout.specs.Rulings.Sweep.{is_held, pins as pins_of};
-ghost use Rattle.vl_layout.specs.Tickets.{free_ticket, tickets_of};
-ghost use Rattle.vl_layout.specs.declared.file_name.Retired.{Retired};
-ghost use Rattle.vl_layout.specs.declared.layout.Layout.{Layout};
+ghost use Rattle.vl_engine_model.specs.Rising.{IsRising};
+ghost use Rattle.vl_engine_model.specs.Ruling.{ended};
+ghost use Rattle.vl_engine_model.specs.Rulings.Begin.{begun};
+ghost use Rattle.vl_engine_model.specs.Rulings.Sweep.{is_held, pins as pins_of};
+ghost use Rattle.vl_engine_model.specs.Tickets.{free_ticket, tickets_of};
+ghost use Rattle.vl_engine_model.specs.declared.file_name.Retired.{Retired};
+ghost use Rattle.vl_engine_model.specs.declared.layout.Layout.{Layout};
 ghost use Rattle.vl_oracle.specs.LiveTickets as oracle;
 ghost use Rattle.vl_pins.specs.Pins.{ArePinsOf, bound_of, raised};
 ghost use Rattle.vl_pins.specs.declared.pins.Pins.{Pins};

@@ -2,11 +2,11 @@
 use Rattle.std.proofs.Common.{◌≡◌, ◌⊎◌, ⊎_elim, ℕ, List}
 use Rattle.vl_io.specs.declared.sink.Sink as sink
 use Rattle.vl_prog.specs.Driving.{PrintsDriven, TellsDriven}
-use Rattle.vl_sequential.specs.Endings.{no_memory_line}
-use Rattle.vl_sequential.specs.Steps.{Finishes}
-use Rattle.vl_sequential.specs.declared.ending.Ending.{Ending}
-use Rattle.vl_sequential.specs.declared.ending.Ending.TheVariants.{Complete, NoMemory, WriteFault}
-use Rattle.vl_sequential.specs.laws.Ends.{or_cut}
+use Rattle.vl_script_model.specs.Endings.{no_memory_line}
+use Rattle.vl_script_model.specs.Steps.{Finishes}
+use Rattle.vl_script_model.specs.declared.ending.Ending.{Ending}
+use Rattle.vl_script_model.specs.declared.ending.Ending.TheVariants.{Complete, NoMemory, WriteFault}
+use Rattle.vl_script_model.specs.laws.Ends.{or_cut}
 
 -- with their lines or the line of want of memory put whole, or with the sink's fault
 pub drive_ends : {K : Type 0} (k : sink.Ghosts K) (clients txns seed : ℕ) (old new : K) (result : Ending) (P : Ending → Type 0)

@@ -1,33 +1,33 @@
 -- A run that found no memory for its words: nothing was opened or read, and the line of that was put, or cut by the sink.
 use Rattle.std.proofs.Common.{◌≡◌, ◌≢◌, ◌⊎◌, ◌≤◌, ◌-◌, ◌^◌, ⊎_elim, inr, ℕ, List, Option, Some, refl, sym, subst, arith}
 use Rattle.std.specs.Prelude.{IsTrue, length}
-use Rattle.vl_core.specs.Found.{IsDurable}
-use Rattle.vl_core.specs.Shown.{Shown}
-use Rattle.vl_core.specs.laws.Opened.{none_made, opening_through, opens_still}
+use Rattle.vl_engine_laws.specs.Found.{IsDurable}
+use Rattle.vl_engine_laws.specs.Shown.{Shown}
+use Rattle.vl_engine_laws.specs.laws.Opened.{none_made, opening_through, opens_still}
 use Rattle.vl_disk.specs.Faults.{Rose}
 use Rattle.vl_disk.specs.declared.watched.Watched.{Ghosts}
 use Rattle.vl_io.specs.declared.sink.Sink as sink
 use Rattle.vl_recover.specs.declared.fails.OpenError.TheVariants as why
 use Rattle.vl_recover.specs.opening.Answers.{calls_to_open}
-use Rattle.vl_sequential.specs.Durable.{CrashesShow, Tells}
-use Rattle.vl_sequential.specs.Endings.{no_memory_line}
-use Rattle.vl_sequential.specs.Exchanges.{KeepsUp}
-use Rattle.vl_sequential.specs.Opening.{why_refused}
-use Rattle.vl_sequential.specs.Reading.{ReadsInput}
-use Rattle.vl_sequential.specs.Runs.{IsFront, Outside, script_of}
-use Rattle.vl_sequential.specs.Sequential.{State, history_of}
-use Rattle.vl_sequential.specs.Start.{AnswersInput, FailsAtTables, StartsIn}
-use Rattle.vl_sequential.specs.Steps.{EndsWithoutOpening, Finishes, FinishesBy}
-use Rattle.vl_sequential.specs.Stored.{IsStopped, IsStored}
-use Rattle.vl_sequential.specs.Trial.{EndsTrial, TakesFirst, Trial}
-use Rattle.vl_sequential.specs.declared.ending.Ending.{Ending}
-use Rattle.vl_sequential.specs.declared.ending.Ending.TheVariants.{NoMemory, Stopped, WriteFault}
-use Rattle.vl_sequential.specs.declared.fails.Refusal.{Refusal}
-use Rattle.vl_sequential.specs.declared.fails.Refusal.TheVariants as refusals
-use Rattle.vl_sequential.specs.laws.DiskSteps.{IsWatched}
-use Rattle.vl_sequential.specs.laws.Ends.{or_cut}
-use Rattle.vl_sequential.specs.laws.ShownDisk.{shown_stays, stored_exactly}
-use Rattle.vl_sequential.specs.laws.Starting.{at_most}
+use Rattle.vl_script_model.specs.Durable.{CrashesShow, Tells}
+use Rattle.vl_script_model.specs.Endings.{no_memory_line}
+use Rattle.vl_script_model.specs.Exchanges.{KeepsUp}
+use Rattle.vl_script_model.specs.Opening.{why_refused}
+use Rattle.vl_script_model.specs.Reading.{ReadsInput}
+use Rattle.vl_script_model.specs.Runs.{IsFront, Outside, script_of}
+use Rattle.vl_script_model.specs.Sequential.{State, history_of}
+use Rattle.vl_script_model.specs.Start.{AnswersInput, FailsAtTables, StartsIn}
+use Rattle.vl_script_model.specs.Steps.{EndsWithoutOpening, Finishes, FinishesBy}
+use Rattle.vl_script_model.specs.Stored.{IsStopped, IsStored}
+use Rattle.vl_script_model.specs.Trial.{EndsTrial, TakesFirst, Trial}
+use Rattle.vl_script_model.specs.declared.ending.Ending.{Ending}
+use Rattle.vl_script_model.specs.declared.ending.Ending.TheVariants.{NoMemory, Stopped, WriteFault}
+use Rattle.vl_script_model.specs.declared.fails.Refusal.{Refusal}
+use Rattle.vl_script_model.specs.declared.fails.Refusal.TheVariants as refusals
+use Rattle.vl_script_model.specs.laws.DiskSteps.{IsWatched}
+use Rattle.vl_script_model.specs.laws.Ends.{or_cut}
+use Rattle.vl_script_model.specs.laws.ShownDisk.{shown_stays, stored_exactly}
+use Rattle.vl_script_model.specs.laws.Starting.{at_most}
 use Rattle.vl_replay.proofs.Runs.OpenedRuns.{ends_refused, not_silent, refused, refused_nothing}
 use Rattle.vl_replay.proofs.Runs.ReadingOn.{unopened_reads_nothing}
 

@@ -4,13 +4,13 @@ use Rattle.vl_disk.specs.Faults.{Rose}
 use Rattle.vl_disk.specs.declared.watched.Watched.{Ghosts}
 use Rattle.vl_io.specs.declared.sink.Sink as sink
 use Rattle.vl_io.specs.declared.source.Source as source
-use Rattle.vl_sequential.specs.Endings.{status_of}
-use Rattle.vl_sequential.specs.Runs.{IsFront}
-use Rattle.vl_sequential.specs.declared.ending.Ending.{Ending}
-use Rattle.vl_sequential.specs.declared.ending.Ending.TheVariants.{BadWords, NoMemory, WriteFault}
+use Rattle.vl_script_model.specs.Endings.{status_of}
+use Rattle.vl_script_model.specs.Runs.{IsFront}
+use Rattle.vl_script_model.specs.declared.ending.Ending.{Ending}
+use Rattle.vl_script_model.specs.declared.ending.Ending.TheVariants.{BadWords, NoMemory, WriteFault}
 use Rattle.vl_prog.specs.Process.{MayExitWith, ServedOver}
 use Rattle.vl_prog.specs.Run.{AreNotPlain, AskFor, EndsBy}
-use Rattle.vl_sequential.specs.declared.words.Command.{Command}
+use Rattle.vl_script_model.specs.declared.words.Command.{Command}
 
 -- a run that wasn't begun has the status of what it was to end by, or the sink's
 pub unbegun_status : {K : Type 0} (g : sink.Ghosts K) (old new : K) (meant : Ending) (status : ℕ)

@@ -3,11 +3,11 @@ use Rattle.std.specs.Prelude.{◌≡◌, ◌⊎◌, ℕ, List}
 use Rattle.vl_drive.specs.Driven.{HasDriven}
 use Rattle.vl_drive.specs.declared.running.Driven.{Driven}
 use Rattle.vl_io.specs.declared.sink.Sink as sink
-use Rattle.vl_sequential.specs.Endings.{no_memory_line, status_of}
-use Rattle.vl_sequential.specs.Steps.{Finishes}
-use Rattle.vl_sequential.specs.Text.{driven_text}
-use Rattle.vl_sequential.specs.declared.ending.Ending.{Ending}
-use Rattle.vl_sequential.specs.declared.ending.Ending.TheVariants.{Complete, NoMemory}
+use Rattle.vl_script_model.specs.Endings.{no_memory_line, status_of}
+use Rattle.vl_script_model.specs.Steps.{Finishes}
+use Rattle.vl_script_model.specs.Text.{driven_text}
+use Rattle.vl_script_model.specs.declared.ending.Ending.{Ending}
+use Rattle.vl_script_model.specs.declared.ending.Ending.TheVariants.{Complete, NoMemory}
 
 -- These lines tell what so many clients came to, by some list of all steps of a store that had nothing before.
 pub record TellsDriven (clients txns seed : ℕ) (text : List ℕ) : Type 0 where

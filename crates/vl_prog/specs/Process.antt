@@ -5,21 +5,21 @@ use Rattle.vl_disk.specs.declared.watched.Watched.{Ghosts}
 use Rattle.vl_io.specs.declared.sink.Sink as sink
 use Rattle.vl_io.specs.declared.source.Source as source
 use Rattle.vl_mem.specs.declared.outcome.Outcome.{Outcome}
-use Rattle.vl_sequential.specs.Endings.{status_of}
-use Rattle.vl_sequential.specs.Failing.{beside}
-use Rattle.vl_sequential.specs.Reading.{streams}
-use Rattle.vl_sequential.specs.Runs.{outside}
-use Rattle.vl_sequential.specs.Sequential.{State}
-use Rattle.vl_sequential.specs.Start.{StartsIn}
-use Rattle.vl_sequential.specs.Trying.{trial_of}
-use Rattle.vl_sequential.specs.declared.ending.Ending.{Ending}
-use Rattle.vl_sequential.specs.declared.ending.Ending.TheVariants.{BadWords}
+use Rattle.vl_script_model.specs.Endings.{status_of}
+use Rattle.vl_script_model.specs.Failing.{beside}
+use Rattle.vl_script_model.specs.Reading.{streams}
+use Rattle.vl_script_model.specs.Runs.{outside}
+use Rattle.vl_script_model.specs.Sequential.{State}
+use Rattle.vl_script_model.specs.Start.{StartsIn}
+use Rattle.vl_script_model.specs.Trying.{trial_of}
+use Rattle.vl_script_model.specs.declared.ending.Ending.{Ending}
+use Rattle.vl_script_model.specs.declared.ending.Ending.TheVariants.{BadWords}
 use Rattle.vl_replay.specs.Benchmark.{StatusOfBench, summary_of}
 use Rattle.vl_prog.specs.Driving.{StatusOfDrive}
 use Rattle.vl_prog.specs.Run.{AreNotPlain, AskFor, EndsBy, FailedAtTables, FailedToRead, HasCountedFault}
 use Rattle.vl_prog.specs.Run.{StatusOfAnswers, StatusOfTrial, TellsOfInput}
-use Rattle.vl_sequential.specs.declared.words.Command.{Command}
-use Rattle.vl_sequential.specs.declared.words.Command.TheVariants.{Bench, Drive, Replay, Trial}
+use Rattle.vl_script_model.specs.declared.words.Command.{Command}
+use Rattle.vl_script_model.specs.declared.words.Command.TheVariants.{Bench, Drive, Replay, Trial}
 
 -- the folder that the second word names, and the working folder where there is none
 abbrev pub folder_of : List (List ℕ) → List ℕ

@@ -3,19 +3,19 @@ use Rattle.std.specs.Prelude.{◌≡◌, ◌≢◌, ◌⊎◌, ℕ, List, Option
 use Rattle.vl_disk.specs.Faults.{Rose}
 use Rattle.vl_disk.specs.declared.name.Name.{Name}
 use Rattle.vl_disk.specs.declared.watched.Watched.{Ghosts}
-use Rattle.vl_sequential.specs.Words.{command_of}
-use Rattle.vl_sequential.specs.declared.words.Command.{Command}
+use Rattle.vl_script_model.specs.Words.{command_of}
+use Rattle.vl_script_model.specs.declared.words.Command.{Command}
 use Rattle.vl_io.specs.declared.sink.Sink as sink
-use Rattle.vl_sequential.specs.Endings.{status_of}
-use Rattle.vl_sequential.specs.Failing.{ReaderFailed}
-use Rattle.vl_sequential.specs.Reading.{Streams, ReadsInput}
-use Rattle.vl_sequential.specs.Runs.{Outside}
-use Rattle.vl_sequential.specs.Start.{AnswersInput, EndsAtTables}
-use Rattle.vl_sequential.specs.Steps.{FinishesBy, EndsWithoutOpening}
-use Rattle.vl_sequential.specs.Trial.{EndsTrial, Trial}
-use Rattle.vl_sequential.specs.declared.ending.Ending.{Ending}
-use Rattle.vl_sequential.specs.declared.ending.Ending.TheVariants.{Damaged, ReaderFault, Stopped}
-use Rattle.vl_sequential.specs.declared.fails.Refusal.{Refusal}
+use Rattle.vl_script_model.specs.Endings.{status_of}
+use Rattle.vl_script_model.specs.Failing.{ReaderFailed}
+use Rattle.vl_script_model.specs.Reading.{Streams, ReadsInput}
+use Rattle.vl_script_model.specs.Runs.{Outside}
+use Rattle.vl_script_model.specs.Start.{AnswersInput, EndsAtTables}
+use Rattle.vl_script_model.specs.Steps.{FinishesBy, EndsWithoutOpening}
+use Rattle.vl_script_model.specs.Trial.{EndsTrial, Trial}
+use Rattle.vl_script_model.specs.declared.ending.Ending.{Ending}
+use Rattle.vl_script_model.specs.declared.ending.Ending.TheVariants.{Damaged, ReaderFault, Stopped}
+use Rattle.vl_script_model.specs.declared.fails.Refusal.{Refusal}
 
 -- the words are plain, and ask for this
 abbrev pub AskFor : List (List ℕ) → Command → Type 0

@@ -6,25 +6,25 @@ ghost use Rattle.vl_disk.specs.DiskState.{DiskState};
 ghost use Rattle.vl_disk.specs.Faults.{Rose};
 ghost use Rattle.vl_disk.specs.Started.{IsRead};
 ghost use Rattle.vl_script.specs.Script.{lines_of};
-ghost use Rattle.vl_sequential.specs.Sequential.{State};
-ghost use Rattle.vl_sequential.specs.Endings.{status_of};
-ghost use Rattle.vl_sequential.specs.Exchanges.{exchanges_from, AreExplained};
-ghost use Rattle.vl_sequential.specs.Failing.{beside};
-ghost use Rattle.vl_sequential.specs.Opening.{IsRefused};
-ghost use Rattle.vl_sequential.specs.Reading.{streams};
-ghost use Rattle.vl_sequential.specs.Runs.{outside};
-ghost use Rattle.vl_sequential.specs.Start.{StartsIn, StaysOpenable};
-ghost use Rattle.vl_sequential.specs.Steps.{IsRefusedRun};
-ghost use Rattle.vl_sequential.specs.declared.ending.Ending.{Ending as HowEnded};
-ghost use Rattle.vl_sequential.specs.declared.fails.Refusal.{Refusal};
-ghost use Rattle.vl_sequential.specs.Trial.{begun};
-ghost use Rattle.vl_sequential.specs.Trying.{trial_of};
+ghost use Rattle.vl_script_model.specs.Sequential.{State};
+ghost use Rattle.vl_script_model.specs.Endings.{status_of};
+ghost use Rattle.vl_script_model.specs.Exchanges.{exchanges_from, AreExplained};
+ghost use Rattle.vl_script_model.specs.Failing.{beside};
+ghost use Rattle.vl_script_model.specs.Opening.{IsRefused};
+ghost use Rattle.vl_script_model.specs.Reading.{streams};
+ghost use Rattle.vl_script_model.specs.Runs.{outside};
+ghost use Rattle.vl_script_model.specs.Start.{StartsIn, StaysOpenable};
+ghost use Rattle.vl_script_model.specs.Steps.{IsRefusedRun};
+ghost use Rattle.vl_script_model.specs.declared.ending.Ending.{Ending as HowEnded};
+ghost use Rattle.vl_script_model.specs.declared.fails.Refusal.{Refusal};
+ghost use Rattle.vl_script_model.specs.Trial.{begun};
+ghost use Rattle.vl_script_model.specs.Trying.{trial_of};
 ghost use Rattle.vl_mem.specs.declared.outcome.Outcome.{Outcome};
 ghost use Rattle.vl_replay.specs.Benchmark.{StatusOfBench, summary_of};
 ghost use Rattle.vl_prog.specs.Driving.{StatusOfDrive};
 ghost use Rattle.vl_prog.specs.Run.{AreNotPlain, AskFor, EndsBy, FailedAtTables, FailedToRead, HasCountedFault};
 ghost use Rattle.vl_prog.specs.Run.{MetDamage, StatusOfAnswers, StatusOfTrial, StatusWithoutOpening, TellsOfInput};
-ghost use Rattle.vl_sequential.specs.declared.words.Command.{Command as Commands};
+ghost use Rattle.vl_script_model.specs.declared.words.Command.{Command as Commands};
 
 use crate::driving::drive;
 use std::alloc::Global;
@@ -35,7 +35,7 @@ use vl_drive::Shops;
 use vl_io::{Sink, Source};
 use vl_model::reads_without_conflict_stay_explained;
 use vl_replay::{bench, replay, trial};
-use vl_sequential::{Command, Ended, Ending, NO_MEMORY, USAGE, command_in, finish};
+use vl_script_model::{Command, Ended, Ending, NO_MEMORY, USAGE, command_in, finish};
 
 /// How a run ended: the process's status, as docs/SCRIPT.md lists them, and the disk.
 pub struct CommandEnded<D> {

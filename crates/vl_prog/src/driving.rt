@@ -2,14 +2,14 @@
 ghost use Rattle.std.specs.Prelude.{◌≡◌, ◌≤◌, Some};
 ghost use Rattle.std.specs.Option.{ForSome};
 ghost use Rattle.vl_prog.specs.Driving.{PrintsDriven, TellsDriven};
-ghost use Rattle.vl_sequential.specs.Endings.{CountsFaultsOf, TheSink};
+ghost use Rattle.vl_script_model.specs.Endings.{CountsFaultsOf, TheSink};
 
 use std::alloc::Global;
 use std::sync::Wait;
 use std::thread::Threads;
 use vl_drive::{Driven, Shops, drive_store};
 use vl_io::Sink;
-use vl_sequential::{Ending, NO_MEMORY, driven_text, finish};
+use vl_script_model::{Ending, NO_MEMORY, driven_text, finish};
 
 /// Lets so many clients take so many turns each over a store that has nothing, as a seed says, and prints what they came to.
 pub fn drive<T: Shops, R: Threads + Wait + Sync, K: Sink>(

@@ -3,9 +3,9 @@
 ghost use Rattle.std.specs.Prelude.{◌≡◌, Some, IfNone, IfOk, IfSome, map, string_bytes};
 ghost use Rattle.std.specs.Option.{ForSome};
 ghost use Rattle.std.specs.Process.{exit_status};
-ghost use Rattle.vl_sequential.specs.Endings.{status_of};
-ghost use Rattle.vl_sequential.specs.declared.ending.Ending.{Ending as HowEnded};
-ghost use Rattle.vl_sequential.specs.declared.ending.Ending.TheVariants as endings;
+ghost use Rattle.vl_script_model.specs.Endings.{status_of};
+ghost use Rattle.vl_script_model.specs.declared.ending.Ending.{Ending as HowEnded};
+ghost use Rattle.vl_script_model.specs.declared.ending.Ending.TheVariants as endings;
 ghost use Rattle.vl_prog.specs.Run.{EndsBy};
 ghost use Rattle.vl_prog.specs.Process.{MayExitWith, ServedOver, folder_of};
 

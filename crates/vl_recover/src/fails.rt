@@ -1,7 +1,6 @@
 use std::alloc::AllocError;
-use vl_disk::Name;
+use vl_disk::{Name, ReadFault};
 use vl_model::Counter;
-use vl_table::TableFault;
 
 /// Why a store wasn't opened.
 #[derive(Clone, Copy, Debug, PartialEq, Eq)]
@@ -34,17 +33,17 @@ impl From<AllocError> for OpenError {
     }
 }
 
-impl From<TableFault> for OpenError {
+impl From<ReadFault> for OpenError {
     ghost use Rattle.std.specs.Prelude.{◌≡◌};
     ghost use Rattle.vl_recover.specs.opening.TableFaults.{open_error};
 
     ghost from_gives = { λ fault e. e ≡ open_error fault };
 
-    fn from(fault: TableFault) -> Self {
+    fn from(fault: ReadFault) -> Self {
         match fault {
-            TableFault::NoMemory => OpenError::NoMemory,
-            TableFault::Disk { name } => OpenError::Disk { name },
-            TableFault::Damaged { name, place } => OpenError::Damaged { name, place },
+            ReadFault::NoMemory => OpenError::NoMemory,
+            ReadFault::Disk { name } => OpenError::Disk { name },
+            ReadFault::Damaged { name, place } => OpenError::Damaged { name, place },
         }
     }
 }

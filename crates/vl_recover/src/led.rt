@@ -20,8 +20,8 @@ use crate::names::has;
 use crate::one_log::front_length;
 use crate::reading::{hold, read_part, size_of};
 use std::alloc::{AllocError, Global};
-use vl_block::Point;
 use vl_disk::{Disk, HeldFile, Name};
+use vl_model::Point;
 use vl_seglog::{SealedLog, header_format};
 use vl_table::Table;
 

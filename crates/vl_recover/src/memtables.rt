@@ -3,9 +3,8 @@ ghost use Rattle.std.specs.Prelude.{◌≡◌, reverse, IfOk};
 ghost use Rattle.vl_model.specs.Entries as order;
 
 use std::alloc::{AllocError, Global};
-use vl_memtable::Memtable;
+use vl_memtable::{Memtable, Run};
 use vl_model::{Entry, entry_order};
-use vl_run::Run;
 
 /// A memtable of these entries, of which the last counts most: all are sorted at once.
 pub fn memtable_of(alloc: Global, entries: Vec<Entry>) -> Result<Memtable, AllocError>

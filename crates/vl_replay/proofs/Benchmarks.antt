@@ -10,8 +10,8 @@ use Rattle.vl_disk.specs.Name.{name_cmp}
 use Rattle.vl_disk.specs.Started.{started_empty}
 use Rattle.vl_engine.specs.Opening.{AnswersOpening, IsDiskFault, reader_faults, why_of}
 use Rattle.vl_io.specs.declared.sink.Sink as sink
-use Rattle.vl_layout.specs.Store.Lines as store
-use Rattle.vl_layout.specs.Store.Reading.{rows_told}
+use Rattle.vl_engine_model.specs.Store.Lines as store
+use Rattle.vl_engine_model.specs.Store.Reading.{rows_told}
 use Rattle.vl_mem.specs.SureDisk.{calls_on, faults_on, never_fails, state_on}
 use Rattle.vl_mem.specs.contracts.sure_disk.SureDiskWatched.TheImpl as memory
 use Rattle.vl_mem.specs.declared.sure_disk.SureDisk.{SureDisk}
@@ -31,24 +31,24 @@ use Rattle.vl_script.specs.declared.answer.SegmentLine.{SegmentLine}
 use Rattle.vl_script.specs.declared.line.Line.{Line}
 use Rattle.vl_script.specs.declared.line.Line.TheVariants.{Delete, Flush, Install, Pick, Plan, Rotate, Set, Sweep}
 use Rattle.vl_script.specs.declared.summary.Summary.{Summary}
-use Rattle.vl_sequential.specs.Asking.{AsksForRow}
-use Rattle.vl_sequential.specs.Endings.{no_memory_line}
-use Rattle.vl_sequential.specs.Failing.{Beside, ByReader, ByWriter, ReaderFailed, beside}
-use Rattle.vl_sequential.specs.Halts.{HaltsByDamage, HaltsByDisk, HaltsByReader}
-use Rattle.vl_sequential.specs.Opening.{IsRefused}
-use Rattle.vl_sequential.specs.Sequential.{IsTold, State, answer_to, as_told, state_after, stat_told, told_segment, without_lengths}
-use Rattle.vl_sequential.specs.Start.{StartsIn}
-use Rattle.vl_sequential.specs.Steps.{Finishes}
-use Rattle.vl_sequential.specs.Trial.{begun}
-use Rattle.vl_sequential.specs.declared.ending.Ending.{Ending}
-use Rattle.vl_sequential.specs.declared.ending.Ending.TheVariants.{Complete, NoMemory, WriteFault}
-use Rattle.vl_sequential.specs.declared.fails.Halt.{Halt}
-use Rattle.vl_sequential.specs.declared.fails.Halt.TheVariants as halts
-use Rattle.vl_sequential.specs.declared.fails.Refusal.{Refusal}
-use Rattle.vl_sequential.specs.declared.fails.Refusal.TheVariants as refusals
-use Rattle.vl_sequential.specs.laws.Ends.{or_cut}
-use Rattle.vl_sequential.specs.laws.Halting.{by_disk_still, out_not_by_disk}
-use Rattle.vl_sequential.specs.laws.StartLaws.{empty_stay, finds_nothing, started_durable, starts_empty}
+use Rattle.vl_script_model.specs.Asking.{AsksForRow}
+use Rattle.vl_script_model.specs.Endings.{no_memory_line}
+use Rattle.vl_script_model.specs.Failing.{Beside, ByReader, ByWriter, ReaderFailed, beside}
+use Rattle.vl_script_model.specs.Halts.{HaltsByDamage, HaltsByDisk, HaltsByReader}
+use Rattle.vl_script_model.specs.Opening.{IsRefused}
+use Rattle.vl_script_model.specs.Sequential.{IsTold, State, answer_to, as_told, state_after, stat_told, told_segment, without_lengths}
+use Rattle.vl_script_model.specs.Start.{StartsIn}
+use Rattle.vl_script_model.specs.Steps.{Finishes}
+use Rattle.vl_script_model.specs.Trial.{begun}
+use Rattle.vl_script_model.specs.declared.ending.Ending.{Ending}
+use Rattle.vl_script_model.specs.declared.ending.Ending.TheVariants.{Complete, NoMemory, WriteFault}
+use Rattle.vl_script_model.specs.declared.fails.Halt.{Halt}
+use Rattle.vl_script_model.specs.declared.fails.Halt.TheVariants as halts
+use Rattle.vl_script_model.specs.declared.fails.Refusal.{Refusal}
+use Rattle.vl_script_model.specs.declared.fails.Refusal.TheVariants as refusals
+use Rattle.vl_script_model.specs.laws.Ends.{or_cut}
+use Rattle.vl_script_model.specs.laws.Halting.{by_disk_still, out_not_by_disk}
+use Rattle.vl_script_model.specs.laws.StartLaws.{empty_stay, finds_nothing, started_durable, starts_empty}
 use Rattle.vl_replay.specs.Benchmark.{PrintsSummary, counted, exchanges_of, summed}
 use Rattle.vl_replay.specs.Opened.{disk_behind}
 use Rattle.vl_replay.specs.declared.replayer.Replayer.{Replayer}

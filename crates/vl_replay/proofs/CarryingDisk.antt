@@ -14,27 +14,27 @@ use Rattle.vl_disk.specs.declared.name.Name.TheVariants.{Table}
 use Rattle.vl_disk.specs.declared.watched.Watched.{Ghosts}
 use Rattle.vl_disk.specs.laws.NameMap.{get_removed, same_or_other}
 use Rattle.vl_engine.specs.Drawing.{WhileLent, WritesFresh}
-use Rattle.vl_core.specs.Represents.{IsHeld, Represents}
-use Rattle.vl_core.specs.Shown.{Shown}
-use Rattle.vl_core.specs.declared.kept.Core.{Core}
-use Rattle.vl_layout.specs.declared.layout.Layout.{Layout}
+use Rattle.vl_engine_laws.specs.Represents.{IsHeld, Represents}
+use Rattle.vl_engine_laws.specs.Shown.{Shown}
+use Rattle.vl_engine_laws.specs.declared.kept.Core.{Core}
+use Rattle.vl_engine_model.specs.declared.layout.Layout.{Layout}
 use Rattle.vl_mem.specs.laws.CrashChance.{IsTornByPieces}
 use Rattle.vl_model.specs.History.{History}
 use Rattle.vl_recover.specs.crash.Held.{AllSettled}
 use Rattle.vl_recover.specs.crash.Starts.{MayOpen}
-use Rattle.vl_sequential.specs.Between.{ShowsBetween}
+use Rattle.vl_script_model.specs.Between.{ShowsBetween}
 use Rattle.vl_replay.specs.Drawn.{DrawsOn, drawn_state}
-use Rattle.vl_sequential.specs.Durable.{CrashesShow, HoldsState, Leaves, Tells}
-use Rattle.vl_sequential.specs.Halts.{HaltsByDisk}
-use Rattle.vl_sequential.specs.Sequential.{State, history_of}
-use Rattle.vl_sequential.specs.Stopped.{StopsStep}
-use Rattle.vl_sequential.specs.Stored.{IsStopped, IsStored}
-use Rattle.vl_sequential.specs.declared.fails.Halt.{Halt}
+use Rattle.vl_script_model.specs.Durable.{CrashesShow, HoldsState, Leaves, Tells}
+use Rattle.vl_script_model.specs.Halts.{HaltsByDisk}
+use Rattle.vl_script_model.specs.Sequential.{State, history_of}
+use Rattle.vl_script_model.specs.Stopped.{StopsStep}
+use Rattle.vl_script_model.specs.Stored.{IsStopped, IsStored}
+use Rattle.vl_script_model.specs.declared.fails.Halt.{Halt}
 use Rattle.vl_replay.proofs.CarryingLists.{calls_then, drawn_none, state_then}
-use Rattle.vl_sequential.specs.laws.Betweens.{extends_itself}
-use Rattle.vl_sequential.specs.laws.DiskSteps.{IsWatched, opens_again, rests_until}
-use Rattle.vl_sequential.specs.laws.ShownDisk.{shown_stays, stored_exactly}
-use Rattle.vl_sequential.specs.laws.TornSteps.{making_torn, settled_torn}
+use Rattle.vl_script_model.specs.laws.Betweens.{extends_itself}
+use Rattle.vl_script_model.specs.laws.DiskSteps.{IsWatched, opens_again, rests_until}
+use Rattle.vl_script_model.specs.laws.ShownDisk.{shown_stays, stored_exactly}
+use Rattle.vl_script_model.specs.laws.TornSteps.{making_torn, settled_torn}
 
 -- ---- what isn't durable
 

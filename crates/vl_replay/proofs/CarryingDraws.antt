@@ -16,41 +16,41 @@ use Rattle.vl_disk.specs.declared.name.Name.{Name}
 use Rattle.vl_disk.specs.declared.name.Name.TheVariants.{Table}
 use Rattle.vl_disk.specs.declared.watched.Watched.{Ghosts}
 use Rattle.vl_disk.specs.laws.NameMap.{same_or_other}
-use Rattle.vl_core.specs.Carries.{Carries}
+use Rattle.vl_engine_laws.specs.Carries.{Carries}
 use Rattle.vl_engine.specs.Drawing.{DrawsCore, FreshLeavesDisk, MayDraw, StopsDrawing, WritesFresh}
 use Rattle.vl_engine.specs.Merging.{StandsOpen, fresh_effects, fresh_outcome}
-use Rattle.vl_core.specs.Represents.{Fronts, Represents, file_of}
-use Rattle.vl_core.specs.Shown.{Shown}
+use Rattle.vl_engine_laws.specs.Represents.{Fronts, Represents, file_of}
+use Rattle.vl_engine_laws.specs.Shown.{Shown}
 use Rattle.vl_engine.specs.Stepping.{StepFailed}
-use Rattle.vl_core.specs.MayStep.{Fits, HasNumbers, LeavesNumbers}
+use Rattle.vl_engine_laws.specs.MayStep.{Fits, HasNumbers, LeavesNumbers}
 use Rattle.vl_engine.specs.declared.fails.StepFail.{StepFail}
 use Rattle.vl_engine.specs.declared.fails.StepFail.TheVariants as fails
-use Rattle.vl_core.specs.declared.kept.Core.{Core}
+use Rattle.vl_engine_laws.specs.declared.kept.Core.{Core}
 use Rattle.vl_engine.specs.declared.open.OpenMerge.{OpenMerge}
-use Rattle.vl_layout.specs.Decides.{Decides, as_before}
-use Rattle.vl_layout.specs.Ruling.{Ruling, has_no_number, leaving}
-use Rattle.vl_layout.specs.Rulings.Fresh as fresh
-use Rattle.vl_layout.specs.Rulings.Fresh.{FreshAnswer, drawn, fresh_ruling, fresh_unless}
-use Rattle.vl_layout.specs.declared.file_name.FileName.{FileName}
-use Rattle.vl_layout.specs.declared.layout.Layout.{Layout}
+use Rattle.vl_engine_model.specs.Decides.{Decides, as_before}
+use Rattle.vl_engine_model.specs.Ruling.{Ruling, has_no_number, leaving}
+use Rattle.vl_engine_model.specs.Rulings.Fresh as fresh
+use Rattle.vl_engine_model.specs.Rulings.Fresh.{FreshAnswer, drawn, fresh_ruling, fresh_unless}
+use Rattle.vl_engine_model.specs.declared.file_name.FileName.{FileName}
+use Rattle.vl_engine_model.specs.declared.layout.Layout.{Layout}
 use Rattle.vl_model.specs.History.{History, last_number}
 use Rattle.vl_model.specs.Limits.{max_file_number}
 use Rattle.vl_model.specs.declared.counter.Counter.{Counter}
 use Rattle.vl_model.specs.declared.counter.Counter.TheVariants as counters
 use Rattle.vl_recover.specs.crash.Alike.{IsLeft}
-use Rattle.vl_sequential.specs.Between.{ShowsBetween}
+use Rattle.vl_script_model.specs.Between.{ShowsBetween}
 use Rattle.vl_replay.specs.Drawn.{DrawsOn, IsServing, drawn_state}
-use Rattle.vl_sequential.specs.Durable.{CrashesShow, HoldsState}
-use Rattle.vl_sequential.specs.Halts.{HaltsByDisk}
+use Rattle.vl_script_model.specs.Durable.{CrashesShow, HoldsState}
+use Rattle.vl_script_model.specs.Halts.{HaltsByDisk}
 use Rattle.vl_replay.specs.Rounds.{round_by}
-use Rattle.vl_sequential.specs.Sequential.{State, history_of}
-use Rattle.vl_sequential.specs.Stopped.{AreNumberedUpTo, StopsStep}
-use Rattle.vl_sequential.specs.Stored.{IsStored}
-use Rattle.vl_sequential.specs.declared.fails.Halt.{Halt}
+use Rattle.vl_script_model.specs.Sequential.{State, history_of}
+use Rattle.vl_script_model.specs.Stopped.{AreNumberedUpTo, StopsStep}
+use Rattle.vl_script_model.specs.Stored.{IsStored}
+use Rattle.vl_script_model.specs.declared.fails.Halt.{Halt}
 use Rattle.vl_replay.proofs.CarryingDisk.{fresh_torn, stays}
 use Rattle.vl_replay.proofs.CarryingLists.{drawn_none}
-use Rattle.vl_sequential.specs.laws.DiskSteps.{IsWatched}
-use Rattle.vl_sequential.specs.laws.HeldDisk.{stored_by}
+use Rattle.vl_script_model.specs.laws.DiskSteps.{IsWatched}
+use Rattle.vl_script_model.specs.laws.HeldDisk.{stored_by}
 
 -- ---- the ruling
 

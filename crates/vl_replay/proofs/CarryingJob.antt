@@ -21,8 +21,8 @@ use Rattle.vl_disk.specs.Faults.{Rose}
 use Rattle.vl_disk.specs.declared.name.Name.{Name}
 use Rattle.vl_disk.specs.declared.watched.Watched.{Ghosts}
 use Rattle.vl_disk.specs.declared.writer.Writer.{Ghosts as Writers}
-use Rattle.vl_core.specs.Carries.{StaysUntold}
-use Rattle.vl_core.specs.declared.kept.Core.{Core}
+use Rattle.vl_engine_laws.specs.Carries.{StaysUntold}
+use Rattle.vl_engine_laws.specs.declared.kept.Core.{Core}
 use Rattle.vl_engine.specs.Drawing.{DrawsCore, FreshLeavesDisk, IsLentMore, IsNewTo, IsSameJob, IsSameMerge}
 use Rattle.vl_engine.specs.Installing.{numbers_in}
 use Rattle.vl_engine.specs.Merging.{HasMerge, IsJustOpen, made_numbers}
@@ -30,11 +30,11 @@ use Rattle.vl_engine.specs.UnderWay.{IsUnderWay}
 use Rattle.vl_engine.specs.declared.fails.StepFail.{StepFail}
 use Rattle.vl_engine.specs.declared.fails.StepFail.TheVariants as fails
 use Rattle.vl_engine.specs.declared.open.OpenMerge.{OpenMerge}
-use Rattle.vl_layout.specs.Jobs.{AreDistinct}
-use Rattle.vl_layout.specs.Merging.{merged_entries, outputs}
-use Rattle.vl_layout.specs.Tables.{cut_into_tables}
-use Rattle.vl_layout.specs.declared.job.Job.{Job}
-use Rattle.vl_layout.specs.declared.table.Table as laid
+use Rattle.vl_engine_model.specs.Jobs.{AreDistinct}
+use Rattle.vl_engine_model.specs.Merging.{merged_entries, outputs}
+use Rattle.vl_engine_model.specs.Tables.{cut_into_tables}
+use Rattle.vl_engine_model.specs.declared.job.Job.{Job}
+use Rattle.vl_engine_model.specs.declared.table.Table as laid
 use Rattle.vl_model.specs.Numbers.{has}
 use Rattle.vl_model.specs.declared.entry.Entry.{Entry}
 use Rattle.vl_table.specs.CursorParts.{MayFailOn, is_disk_fault}
@@ -42,15 +42,15 @@ use Rattle.vl_table.specs.OfTables.{AreOf}
 use Rattle.vl_table.specs.Seeks.{IsBadBlock}
 use Rattle.vl_table.specs.Tables.{IsOf, shape_of}
 use Rattle.vl_table.specs.declared.block_reader.BlockReader.{BlockReader}
-use Rattle.vl_table.specs.declared.fault.TableFault.{TableFault}
-use Rattle.vl_table.specs.declared.fault.TableFault.TheVariants.{Damaged, Disk, NoMemory}
+use Rattle.vl_disk.specs.declared.read_fault.ReadFault.{ReadFault}
+use Rattle.vl_disk.specs.declared.read_fault.ReadFault.TheVariants.{Damaged, Disk, NoMemory}
 use Rattle.vl_table.specs.declared.table.Table.{Table}
 use Rattle.vl_table.specs.laws.TrueBlocks.{no_bad_block}
 use Rattle.vl_version.specs.Bases.{Fits}
 use Rattle.vl_version.specs.Sources.{tables_in}
 use Rattle.vl_version.specs.declared.base.Base.{Base}
-use Rattle.vl_sequential.specs.Failing.{ByReader, ByWriter, ReaderFailed, beside}
-use Rattle.vl_sequential.specs.Halts.{HaltsByDisk, HaltsByReader}
+use Rattle.vl_script_model.specs.Failing.{ByReader, ByWriter, ReaderFailed, beside}
+use Rattle.vl_script_model.specs.Halts.{HaltsByDisk, HaltsByReader}
 use Rattle.vl_replay.specs.Handed.{MayHandIn, are_distinct}
 use Rattle.vl_replay.specs.Rounds.{HasLent, halt_by}
 use Rattle.vl_replay.proofs.CarryingLists.{all_among, all_more, apart_all, more_distinct}
@@ -155,14 +155,14 @@ module _ {H R W : Type 0} (writers : Writers W) (bytes : H → Option (List ℕ)
       damaged_memory e = cc
 
   -- nothing that the merge reads is damaged
-  pub sound_reading : (fault : TableFault) → FailsReading is_disk_fault
+  pub sound_reading : (fault : ReadFault) → FailsReading is_disk_fault
       (MayWhere (Fits bytes job.base.version reader) (MayFailOn bytes (tables_in job.base.version))) is_disk_fault
       (MayFailOn bytes job.inputs.tables.items) c fault → (name : Name) (place : ℕ) → fault ≡ Damaged name place → ⊥
   sound_reading fault fails name place is_damage = no_damage name place (subst (FailsReading is_disk_fault
       (MayWhere (Fits bytes job.base.version reader) (MayFailOn bytes (tables_in job.base.version))) is_disk_fault
       (MayFailOn bytes job.inputs.tables.items) c) is_damage fails)
 
-  pub sound_filling : {g : _} (file : Lent W g) (old new : TheJob (Base H R) H W g) (fault : TableFault) → FailsWith writers
+  pub sound_filling : {g : _} (file : Lent W g) (old new : TheJob (Base H R) H W g) (fault : ReadFault) → FailsWith writers
       (FailsReading is_disk_fault
       (MayWhere (Fits bytes job.base.version reader) (MayFailOn bytes (tables_in job.base.version))) is_disk_fault
       (MayFailOn bytes job.inputs.tables.items)) c file old new fault → (name : Name) (place : ℕ) → fault ≡ Damaged name place → ⊥
@@ -185,7 +185,7 @@ module _ {H R W : Type 0} (writers : Writers W) (bytes : H → Option (List ℕ)
 -- ---- what failed
 
 -- a halt by a fault of reading or writing isn't one by the disk
-pub not_by_disk : (T : Type 0) (fault : TableFault) → HaltsByDisk {T = T} (Err (halt_by fault)) → ⊥
+pub not_by_disk : (T : Type 0) (fault : ReadFault) → HaltsByDisk {T = T} (Err (halt_by fault)) → ⊥
 not_by_disk T NoMemory by = by
 not_by_disk T (Disk name) by = by
 not_by_disk T (Damaged name place) by = by
@@ -195,7 +195,7 @@ module _ {R W : Type 0} (reads : R → ℕ) (writers : Writers W) (old new : Job
   its = counts (λ (l : BlockReader R). reads l.reader) reads old new
 
   -- one of the two readers has counted it
-  read_failed : (may their : TableFault → Type 0) (name : Name) → FailsReading is_disk_fault may is_disk_fault their its (Disk name)
+  read_failed : (may their : ReadFault → Type 0) (name : Name) → FailsReading is_disk_fault may is_disk_fault their its (Disk name)
       → ReaderFailed (beside reads writers.faults)
   read_failed may their name fails = ⊎_elim
       (λ (out : IsMemory its (Disk name)). absurd (disk_memory out.is))
@@ -212,15 +212,15 @@ module _ {R W : Type 0} (reads : R → ℕ) (writers : Writers W) (old new : Job
       disk_memory : Disk name ≡ NoMemory → ⊥
       disk_memory e = cc
 
-  pub reading_failed : (T : Type 0) (may their : TableFault → Type 0) (fault : TableFault)
+  pub reading_failed : (T : Type 0) (may their : ReadFault → Type 0) (fault : ReadFault)
       → FailsReading is_disk_fault may is_disk_fault their its fault
       → HaltsByReader {T = T} (Err (halt_by fault)) → ReaderFailed (beside reads writers.faults)
   reading_failed T may their NoMemory fails by = absurd by
   reading_failed T may their (Disk name) fails by = read_failed may their name fails
   reading_failed T may their (Damaged name place) fails by = absurd by
 
-  pub filling_failed : (T : Type 0) {V H : Type 0} (may their : TableFault → Type 0) {g : _} (file : Lent W g)
-      (first last : TheJob V H W g) (fault : TableFault)
+  pub filling_failed : (T : Type 0) {V H : Type 0} (may their : ReadFault → Type 0) {g : _} (file : Lent W g)
+      (first last : TheJob V H W g) (fault : ReadFault)
       → FailsWith writers (FailsReading is_disk_fault may is_disk_fault their) its file first last fault
       → HaltsByReader {T = T} (Err (halt_by fault)) → ReaderFailed (beside reads writers.faults)
   filling_failed T may their file first last NoMemory fails by = absurd by

@@ -5,13 +5,13 @@ use Rattle.std.proofs.Common.{refl, ap, sym, ◌∙◌, arith}
 use Rattle.std.proofs.lemmas.Bool.Decides.{nat_tests}
 use Rattle.std.proofs.lemmas.List.{length-take}
 use Rattle.vl_disk.specs.Faults.{after_calls, one_more}
-use Rattle.vl_layout.specs.Jobs.{AreDistinct}
-use Rattle.vl_layout.specs.Rulings.Fresh.{drawn}
-use Rattle.vl_layout.specs.declared.layout.Layout.{Layout}
+use Rattle.vl_engine_model.specs.Jobs.{AreDistinct}
+use Rattle.vl_engine_model.specs.Rulings.Fresh.{drawn}
+use Rattle.vl_engine_model.specs.declared.layout.Layout.{Layout}
 use Rattle.vl_model.specs.Numbers.{has}
 use Rattle.vl_replay.specs.Drawn.{drawn_all, drawn_state, numbers_from}
 use Rattle.vl_replay.specs.Handed.{are_distinct}
-use Rattle.vl_sequential.specs.Sequential.{State}
+use Rattle.vl_script_model.specs.Sequential.{State}
 
 suc_is : (n : ℕ) → suc n ≡ n + 1
 suc_is n = omega arith

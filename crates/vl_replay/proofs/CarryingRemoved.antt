@@ -6,18 +6,18 @@ use Rattle.vl_disk.specs.declared.writer.Writer.{Ghosts as Writers}
 use Rattle.vl_compact.specs.declared.files.Lent.{Lent}
 use Rattle.vl_compact.specs.declared.job.Job.{Job as TheJob}
 use Rattle.vl_compact.specs.declared.job_reader.JobReader.{JobReader}
-use Rattle.vl_core.specs.declared.kept.Core.{Core}
+use Rattle.vl_engine_laws.specs.declared.kept.Core.{Core}
 use Rattle.vl_engine.specs.Merging.{fresh_outcome}
 use Rattle.vl_engine.specs.declared.fails.StepFail.{StepFail}
 use Rattle.vl_engine.specs.declared.fails.StepFail.TheVariants as fails
 use Rattle.vl_engine.specs.declared.open.OpenMerge.{OpenMerge}
-use Rattle.vl_layout.specs.Decides.{Decides, Effects, Otherwise}
-use Rattle.vl_layout.specs.Ruling.{Ruling, has_no_number, leaving}
-use Rattle.vl_layout.specs.Rulings.Fresh as fresh
-use Rattle.vl_layout.specs.Rulings.Fresh.{FreshAnswer, drawn, fresh_ruling, fresh_unless}
-use Rattle.vl_layout.specs.declared.file_name.FileName.{FileName}
-use Rattle.vl_layout.specs.declared.job.Job.{Job}
-use Rattle.vl_layout.specs.declared.layout.Layout.{Layout}
+use Rattle.vl_engine_model.specs.Decides.{Decides, Effects, Otherwise}
+use Rattle.vl_engine_model.specs.Ruling.{Ruling, has_no_number, leaving}
+use Rattle.vl_engine_model.specs.Rulings.Fresh as fresh
+use Rattle.vl_engine_model.specs.Rulings.Fresh.{FreshAnswer, drawn, fresh_ruling, fresh_unless}
+use Rattle.vl_engine_model.specs.declared.file_name.FileName.{FileName}
+use Rattle.vl_engine_model.specs.declared.job.Job.{Job}
+use Rattle.vl_engine_model.specs.declared.layout.Layout.{Layout}
 use Rattle.vl_model.specs.History.{History}
 use Rattle.vl_model.specs.declared.counter.Counter.{Counter}
 use Rattle.vl_model.specs.declared.counter.Counter.TheVariants as counters
@@ -27,9 +27,9 @@ use Rattle.vl_replay.specs.Drawn.{IsServing, drawn_all, drawn_state}
 use Rattle.vl_replay.specs.Rounds.{RoundLeaves, Rounds, round_by}
 use Rattle.vl_replay.specs.declared.carrying.Round.{Round}
 use Rattle.vl_replay.specs.declared.carrying.Round.TheVariants as rounds
-use Rattle.vl_sequential.specs.Halts.{HaltsByDisk}
-use Rattle.vl_sequential.specs.declared.fails.Halt.{Halt}
-use Rattle.vl_sequential.specs.Sequential.{State}
+use Rattle.vl_script_model.specs.Halts.{HaltsByDisk}
+use Rattle.vl_script_model.specs.declared.fails.Halt.{Halt}
+use Rattle.vl_script_model.specs.Sequential.{State}
 use Rattle.vl_replay.proofs.CarryingLists.{drawn_then, next_drawn}
 use Rattle.vl_replay.proofs.CarryingTables.{SoFar}
 

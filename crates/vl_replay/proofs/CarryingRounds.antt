@@ -16,30 +16,30 @@ use Rattle.vl_engine.specs.Drawing.{IsSameJob}
 use Rattle.vl_engine.specs.Merging.{HasMerge, made_numbers}
 use Rattle.vl_engine.specs.declared.fails.StepFail.{StepFail}
 use Rattle.vl_engine.specs.declared.fails.StepFail.TheVariants as fails
-use Rattle.vl_core.specs.declared.kept.Core.{Core}
+use Rattle.vl_engine_laws.specs.declared.kept.Core.{Core}
 use Rattle.vl_engine.specs.declared.open.OpenMerge.{OpenMerge}
-use Rattle.vl_layout.specs.Merging.{outputs}
-use Rattle.vl_layout.specs.declared.job.Job.{Job}
+use Rattle.vl_engine_model.specs.Merging.{outputs}
+use Rattle.vl_engine_model.specs.declared.job.Job.{Job}
 use Rattle.vl_model.specs.Limits.{max_file_number}
 use Rattle.vl_table.specs.declared.block_reader.BlockReader.{BlockReader}
-use Rattle.vl_table.specs.declared.fault.TableFault.{TableFault}
-use Rattle.vl_table.specs.declared.fault.TableFault.TheVariants as faults
+use Rattle.vl_disk.specs.declared.read_fault.ReadFault.{ReadFault}
+use Rattle.vl_disk.specs.declared.read_fault.ReadFault.TheVariants as faults
 use Rattle.vl_version.specs.Bases.{Fits, HasSources}
 use Rattle.vl_version.specs.declared.base.Base.{Base}
 use Rattle.vl_replay.specs.Drawn.{IsServing, drawn_state}
-use Rattle.vl_sequential.specs.Halts.{HaltsByDisk}
+use Rattle.vl_script_model.specs.Halts.{HaltsByDisk}
 use Rattle.vl_replay.specs.Rounds.{EndsRound, IsUnderWay, Rounds, halt_by, round_by}
-use Rattle.vl_sequential.specs.Sequential.{State, history_of}
+use Rattle.vl_script_model.specs.Sequential.{State, history_of}
 use Rattle.vl_replay.specs.declared.carrying.Round.{Round}
 use Rattle.vl_replay.specs.declared.carrying.Round.TheVariants as rounds
-use Rattle.vl_sequential.specs.declared.fails.Halt.{Halt}
+use Rattle.vl_script_model.specs.declared.fails.Halt.{Halt}
 use Rattle.vl_replay.proofs.CarryingDisk.{rests}
 use Rattle.vl_replay.proofs.CarryingDraws.{Came, Draws, exhausted_came, exhausted_is, exhausted_past, failed_came}
 use Rattle.vl_replay.proofs.CarryingDraws.{failed_fits, failed_name, lent_came, lent_fits, lent_number, never_halted}
 use Rattle.vl_replay.proofs.CarryingDraws.{short_came}
 use Rattle.vl_replay.proofs.CarryingJob.{has_same, not_by_disk}
 use Rattle.vl_replay.proofs.CarryingLists.{drawn_none}
-use Rattle.vl_sequential.specs.laws.DiskSteps.{IsWatched}
+use Rattle.vl_script_model.specs.laws.DiskSteps.{IsWatched}
 
 none_one : ◌≡◌ {A = ℕ} 0 1 → ⊥
 none_one e = cc
@@ -51,7 +51,7 @@ fresh_file o x is y told = let e : Some y ≡ Some x = sym told ∙ is in cc
 module _ {D H R W : Type 0} (g : Ghosts D) (watched : IsWatched g) (writers : Writers W) (bytes : H → Option (List ℕ))
     (s : State) (j : Job) where
   -- a fault of reading or writing ends it
-  ends_halted : {k : _} (first last : TheJob (Base H R) H W k) (reader : JobReader R (BlockReader R)) (count : ℕ) (fault : TableFault)
+  ends_halted : {k : _} (first last : TheJob (Base H R) H W k) (reader : JobReader R (BlockReader R)) (count : ℕ) (fault : ReadFault)
       → ((name : Name) (place : ℕ) → fault ≡ faults.Damaged name place → ⊥)
       → EndsRound writers bytes first last reader s j count (Err (halt_by fault))
   ends_halted first last reader count faults.NoMemory sound = tt
@@ -64,7 +64,7 @@ module _ {D H R W : Type 0} (g : Ghosts D) (watched : IsWatched g) (writers : Wr
     unmoved : IsServing bytes (g.told disk) core merging (drawn_state 0 s)
     unmoved = subst (λ (t : State). IsServing bytes (g.told disk) core merging t) (sym (drawn_none s)) way.serves
 
-    pub unread : (fault : TableFault) → ((name : Name) (place : ℕ) → fault ≡ faults.Damaged name place → ⊥)
+    pub unread : (fault : ReadFault) → ((name : Name) (place : ℕ) → fault ≡ faults.Damaged name place → ⊥)
         → Rounds g writers bytes disk disk core merging first last now s j (Err (halt_by fault))
     unread fault sound = record {
       count = 0;
@@ -159,7 +159,7 @@ module _ {D H R W : Type 0} (g : Ghosts D) (watched : IsWatched g) (writers : Wr
       drawn_fits = lent_fits g watched bytes before after old new was_open is_open s way.serves file d
 
       -- and couldn't be filled
-      pub unfilled : (fault : TableFault) → ((name : Name) (place : ℕ) → fault ≡ faults.Damaged name place → ⊥)
+      pub unfilled : (fault : ReadFault) → ((name : Name) (place : ℕ) → fault ≡ faults.Damaged name place → ⊥)
           → Rounds g writers bytes old new after is_open first last now s j (Err (halt_by fault))
       unfilled fault sound =
           let all = came (Err (halt_by fault)) (not_by_disk Round fault) in

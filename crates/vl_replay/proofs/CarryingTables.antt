@@ -11,29 +11,29 @@ use Rattle.vl_disk.specs.declared.name.Name.TheVariants.{Table}
 use Rattle.vl_disk.specs.declared.watched.Watched.{Ghosts}
 use Rattle.vl_disk.specs.declared.writer.Writer.{Ghosts as Writers}
 use Rattle.vl_engine.specs.Merging.{made_numbers}
-use Rattle.vl_core.specs.declared.kept.Core.{Core}
+use Rattle.vl_engine_laws.specs.declared.kept.Core.{Core}
 use Rattle.vl_engine.specs.declared.open.OpenMerge.{OpenMerge}
-use Rattle.vl_layout.specs.Jobs.{tables_made}
-use Rattle.vl_layout.specs.Merging.{outputs}
-use Rattle.vl_layout.specs.declared.job.Job.{Job}
+use Rattle.vl_engine_model.specs.Jobs.{tables_made}
+use Rattle.vl_engine_model.specs.Merging.{outputs}
+use Rattle.vl_engine_model.specs.declared.job.Job.{Job}
 use Rattle.vl_model.specs.Limits.{max_file_number}
 use Rattle.vl_model.specs.declared.counter.Counter.{Counter}
 use Rattle.vl_table.specs.declared.block_reader.BlockReader.{BlockReader}
 use Rattle.vl_version.specs.Bases.{Fits}
 use Rattle.vl_version.specs.declared.base.Base.{Base}
 use Rattle.vl_replay.specs.Drawn.{DrawsOn, EndsMerging, HasTablesFrom, IsPlanned, IsServing, Merged, drawn_state, numbers_from}
-use Rattle.vl_sequential.specs.Durable.{HoldsState}
-use Rattle.vl_sequential.specs.Halts.{HaltsByDisk}
+use Rattle.vl_script_model.specs.Durable.{HoldsState}
+use Rattle.vl_script_model.specs.Halts.{HaltsByDisk}
 use Rattle.vl_replay.specs.Rounds.{HasThem, IsUnderWay, Rounds}
-use Rattle.vl_sequential.specs.Sequential.{State}
-use Rattle.vl_sequential.specs.Stored.{IsStored}
+use Rattle.vl_script_model.specs.Sequential.{State}
+use Rattle.vl_script_model.specs.Stored.{IsStored}
 use Rattle.vl_replay.specs.declared.carrying.Round.{Round}
 use Rattle.vl_replay.specs.declared.carrying.Round.TheVariants as rounds
-use Rattle.vl_sequential.specs.declared.fails.Halt.{Halt}
-use Rattle.vl_sequential.specs.declared.fails.Halt.TheVariants as halts
+use Rattle.vl_script_model.specs.declared.fails.Halt.{Halt}
+use Rattle.vl_script_model.specs.declared.fails.Halt.TheVariants as halts
 use Rattle.vl_replay.proofs.CarryingDisk.{draws_then, rests}
 use Rattle.vl_replay.proofs.CarryingLists.{drawn_none, length-from, length-zip, next_drawn, no_longer, one_from, state_then}
-use Rattle.vl_sequential.specs.laws.DiskSteps.{IsWatched}
+use Rattle.vl_script_model.specs.laws.DiskSteps.{IsWatched}
 
 -- what ends by want of memory is that
 pub out_is : {T : Type 0} (result : Result T Halt) → IsErrAnd result (λ halt. halt ≡ halts.NoMemory) → result ≡ Err halts.NoMemory

@@ -1,18 +1,18 @@
 -- A benchmark: generated lines over an empty disk, and the summary of the answers to them.
 use Rattle.std.specs.Prelude.{◌≡◌, ◌⊎◌, ℕ, Bool, if◌then◌else◌, List, [], ◌∷◌, length, map}
 use Rattle.vl_io.specs.declared.sink.Sink as sink
-use Rattle.vl_layout.specs.Store.Lines as store
+use Rattle.vl_engine_model.specs.Store.Lines as store
 use Rattle.vl_script.specs.Generator.{bench_lines}
 use Rattle.vl_script.specs.Summary.{bytes_in, is_commit, live_in, none_counted, plus, summary_text}
 use Rattle.vl_script.specs.declared.line.Line.{Line}
 use Rattle.vl_script.specs.declared.summary.Summary.{Summary}
-use Rattle.vl_sequential.specs.Endings.{no_memory_line, status_of}
-use Rattle.vl_sequential.specs.Exchanges.{Exchange, exchanged}
-use Rattle.vl_sequential.specs.Sequential.{State, state_after, told_segment}
-use Rattle.vl_sequential.specs.Steps.{Finishes}
-use Rattle.vl_sequential.specs.Trial.{begun}
-use Rattle.vl_sequential.specs.declared.ending.Ending.{Ending}
-use Rattle.vl_sequential.specs.declared.ending.Ending.TheVariants.{Complete, NoMemory}
+use Rattle.vl_script_model.specs.Endings.{no_memory_line, status_of}
+use Rattle.vl_script_model.specs.Exchanges.{Exchange, exchanged}
+use Rattle.vl_script_model.specs.Sequential.{State, state_after, told_segment}
+use Rattle.vl_script_model.specs.Steps.{Finishes}
+use Rattle.vl_script_model.specs.Trial.{begun}
+use Rattle.vl_script_model.specs.declared.ending.Ending.{Ending}
+use Rattle.vl_script_model.specs.declared.ending.Ending.TheVariants.{Complete, NoMemory}
 
 -- the lines with their answers, from a state on
 abbrev pub exchanges_of : State → List Line → List Exchange

@@ -2,26 +2,26 @@
 use Rattle.std.specs.Prelude.{◌≡◌, ℕ, List, Option, None, Some, Result, Ok, Err, is_some, true}
 use Rattle.std.specs.Option.{ForSome}
 use Rattle.vl_collect.specs.Passing.{IsWholeFrom}
-use Rattle.vl_collect.specs.declared.fault.PassFault.{PassFault}
-use Rattle.vl_collect.specs.declared.fault.PassFault.TheVariants as faults
+use Rattle.vl_disk.specs.declared.read_fault.ReadFault.{ReadFault}
+use Rattle.vl_disk.specs.declared.read_fault.ReadFault.TheVariants as faults
 use Rattle.vl_collect.specs.declared.pass.Pass.{Pass as ThePass}
-use Rattle.vl_core.specs.MoveFacts.{AreThere}
-use Rattle.vl_core.specs.Lasts.{Lasts}
-use Rattle.vl_core.specs.declared.kept.Core.{Core}
+use Rattle.vl_engine_laws.specs.MoveFacts.{AreThere}
+use Rattle.vl_engine_laws.specs.Lasts.{Lasts}
+use Rattle.vl_engine_laws.specs.declared.kept.Core.{Core}
 use Rattle.vl_engine.specs.Collecting.{Collects, FitsLooks, GoesOver, passed_in}
 use Rattle.vl_engine.specs.declared.fails.MoveFail.{MoveFail}
 use Rattle.vl_engine.specs.declared.fails.MoveFail.TheVariants as unmoved
 use Rattle.vl_engine.specs.declared.fails.PickFail.{PickFail}
 use Rattle.vl_engine.specs.declared.fails.PickFail.TheVariants as unpicked
 use Rattle.vl_engine.specs.declared.open.Collecting.{Collecting}
-use Rattle.vl_layout.specs.Relocation.{Candidate, Pass}
-use Rattle.vl_layout.specs.Store.Lines.{Name}
-use Rattle.vl_layout.specs.Store.Things as things
-use Rattle.vl_layout.specs.Store.Things.{APass, Thing, thing_in, thing_of}
-use Rattle.vl_layout.specs.declared.layout.Layout.{Layout}
-use Rattle.vl_sequential.specs.Sequential.{State}
-use Rattle.vl_sequential.specs.declared.fails.Halt.{Halt}
-use Rattle.vl_sequential.specs.declared.fails.Halt.TheVariants as halts
+use Rattle.vl_engine_model.specs.Relocation.{Candidate, Pass}
+use Rattle.vl_engine_model.specs.Store.Lines.{Name}
+use Rattle.vl_engine_model.specs.Store.Things as things
+use Rattle.vl_engine_model.specs.Store.Things.{APass, Thing, thing_in, thing_of}
+use Rattle.vl_engine_model.specs.declared.layout.Layout.{Layout}
+use Rattle.vl_script_model.specs.Sequential.{State}
+use Rattle.vl_script_model.specs.declared.fails.Halt.{Halt}
+use Rattle.vl_script_model.specs.declared.fails.Halt.TheVariants as halts
 use Rattle.vl_replay.specs.declared.replayer.passing.Passing.{Passing}
 use Rattle.vl_script.specs.declared.answer.Answer.{Answer}
 use Rattle.vl_script.specs.declared.answer.Answer.TheVariants as answers
@@ -98,7 +98,7 @@ told_pick (Err unpicked.NoRewrite) = Ok answers.NoRewrite
 told_pick (Err unpicked.NoMemory) = Err halts.NoMemory
 
 -- whose reading failed
-abbrev pub halt_at : PassFault → Halt
+abbrev pub halt_at : ReadFault → Halt
 halt_at faults.NoMemory = halts.NoMemory
 halt_at (faults.Disk name) = halts.Read name
 halt_at (faults.Damaged name place) = halts.Damaged name place

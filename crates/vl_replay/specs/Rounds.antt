@@ -12,34 +12,34 @@ use Rattle.vl_disk.specs.declared.writer.Writer.{Ghosts as Writers}
 use Rattle.vl_engine.specs.Merging.{HasAllMerge, HasMerge, made_numbers}
 use Rattle.vl_engine.specs.declared.fails.StepFail.{StepFail}
 use Rattle.vl_engine.specs.declared.fails.StepFail.TheVariants as fails
-use Rattle.vl_core.specs.declared.kept.Core.{Core}
+use Rattle.vl_engine_laws.specs.declared.kept.Core.{Core}
 use Rattle.vl_engine.specs.declared.open.OpenMerge.{OpenMerge}
-use Rattle.vl_layout.specs.Jobs.{AreDistinct}
-use Rattle.vl_layout.specs.Merging.{outputs}
-use Rattle.vl_layout.specs.Rulings.Fresh.{drawn}
-use Rattle.vl_layout.specs.declared.job.Job.{Job}
-use Rattle.vl_layout.specs.declared.layout.Layout.{Layout}
+use Rattle.vl_engine_model.specs.Jobs.{AreDistinct}
+use Rattle.vl_engine_model.specs.Merging.{outputs}
+use Rattle.vl_engine_model.specs.Rulings.Fresh.{drawn}
+use Rattle.vl_engine_model.specs.declared.job.Job.{Job}
+use Rattle.vl_engine_model.specs.declared.layout.Layout.{Layout}
 use Rattle.vl_model.specs.Limits.{max_file_number}
 use Rattle.vl_model.specs.declared.counter.Counter.TheVariants as counters
 use Rattle.vl_table.specs.declared.block_reader.BlockReader.{BlockReader}
-use Rattle.vl_table.specs.declared.fault.TableFault.{TableFault}
-use Rattle.vl_table.specs.declared.fault.TableFault.TheVariants as faults
+use Rattle.vl_disk.specs.declared.read_fault.ReadFault.{ReadFault}
+use Rattle.vl_disk.specs.declared.read_fault.ReadFault.TheVariants as faults
 use Rattle.vl_version.specs.Bases.{Fits}
 use Rattle.vl_version.specs.declared.base.Base.{Base}
 use Rattle.vl_replay.specs.Drawn.{DrawsOn, IsServing, drawn_state}
-use Rattle.vl_sequential.specs.Durable.{HoldsState}
-use Rattle.vl_sequential.specs.Halts.{HaltsByDisk}
-use Rattle.vl_sequential.specs.Sequential.{State}
-use Rattle.vl_sequential.specs.Stored.{IsStored}
+use Rattle.vl_script_model.specs.Durable.{HoldsState}
+use Rattle.vl_script_model.specs.Halts.{HaltsByDisk}
+use Rattle.vl_script_model.specs.Sequential.{State}
+use Rattle.vl_script_model.specs.Stored.{IsStored}
 use Rattle.vl_replay.specs.declared.carrying.Round.{Round}
 use Rattle.vl_replay.specs.declared.carrying.Round.TheVariants as rounds
-use Rattle.vl_sequential.specs.declared.fails.Halt.{Halt}
-use Rattle.vl_sequential.specs.declared.fails.Halt.TheVariants as halts
+use Rattle.vl_script_model.specs.declared.fails.Halt.{Halt}
+use Rattle.vl_script_model.specs.declared.fails.Halt.TheVariants as halts
 
 -- ---- how a line ends
 
 -- whose merge couldn't read, or couldn't write beside the disk
-abbrev pub halt_by : TableFault → Halt
+abbrev pub halt_by : ReadFault → Halt
 halt_by faults.NoMemory = halts.NoMemory
 halt_by (faults.Disk name) = halts.Read name
 halt_by (faults.Damaged name place) = halts.Damaged name place

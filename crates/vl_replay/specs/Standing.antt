@@ -5,32 +5,32 @@ use Rattle.std.specs.List.{filter}
 use Rattle.std.specs.Option.{option_map}
 use Rattle.std.specs.Bool.{⊤}
 use Rattle.std.specs.Ordering.{eq_by_cmp}
-use Rattle.vl_core.specs.LiesOver.{IsInMemory}
-use Rattle.vl_core.specs.Represents.{IsLive}
+use Rattle.vl_engine_laws.specs.LiesOver.{IsInMemory}
+use Rattle.vl_engine_laws.specs.Represents.{IsLive}
 use Rattle.vl_engine.specs.declared.txn.Txn.{Txn}
 use Rattle.vl_engine.specs.Sees.{Sees, SeesAlone, asked, asked_view}
-use Rattle.vl_layout.specs.Rulings.Commit.{Transaction as ATxn}
-use Rattle.vl_layout.specs.Rulings.Sweep.{is_held}
-use Rattle.vl_layout.specs.Sources.{tables}
-use Rattle.vl_layout.specs.Store.Lines.{Name}
-use Rattle.vl_layout.specs.Store.Things as store
-use Rattle.vl_layout.specs.Store.Things.{AJob, APass, ATransaction, AView, thing_in}
-use Rattle.vl_layout.specs.declared.file_name.Retired.{Retired}
-use Rattle.vl_layout.specs.declared.layout.Layout.{Layout}
-use Rattle.vl_layout.specs.declared.live.Live.{Live}
-use Rattle.vl_layout.specs.declared.live.Pin.{Pin}
+use Rattle.vl_engine_model.specs.Rulings.Commit.{Transaction as ATxn}
+use Rattle.vl_engine_model.specs.Rulings.Sweep.{is_held}
+use Rattle.vl_engine_model.specs.Sources.{tables}
+use Rattle.vl_engine_model.specs.Store.Lines.{Name}
+use Rattle.vl_engine_model.specs.Store.Things as store
+use Rattle.vl_engine_model.specs.Store.Things.{AJob, APass, ATransaction, AView, thing_in}
+use Rattle.vl_engine_model.specs.declared.file_name.Retired.{Retired}
+use Rattle.vl_engine_model.specs.declared.layout.Layout.{Layout}
+use Rattle.vl_engine_model.specs.declared.live.Live.{Live}
+use Rattle.vl_engine_model.specs.declared.live.Pin.{Pin}
 use Rattle.vl_model.specs.History.{History}
 use Rattle.vl_model.specs.Keys.{key_cmp, tagged}
 use Rattle.vl_model.specs.declared.change.Change.{Change}
 use Rattle.vl_model.specs.declared.change.Change.TheVariants as changes
-use Rattle.vl_sequential.specs.Readers.{IsReader, is_table}
-use Rattle.vl_sequential.specs.declared.fails.Halt.{Halt}
-use Rattle.vl_sequential.specs.declared.fails.Halt.TheVariants as halts
+use Rattle.vl_script_model.specs.Readers.{IsReader, is_table}
+use Rattle.vl_script_model.specs.declared.fails.Halt.{Halt}
+use Rattle.vl_script_model.specs.declared.fails.Halt.TheVariants as halts
 use Rattle.vl_replay.specs.declared.replayer.open.Open.{Open}
 use Rattle.vl_script.specs.declared.answer.Answer.{Answer}
 use Rattle.vl_script.specs.declared.answer.Answer.TheVariants as answers
-use Rattle.vl_layout.specs.Store.Lines as store_lines
-use Rattle.vl_layout.specs.Store.Reading.{answer_of, answer_with_tag}
+use Rattle.vl_engine_model.specs.Store.Lines as store_lines
+use Rattle.vl_engine_model.specs.Store.Reading.{answer_of, answer_with_tag}
 use Rattle.vl_engine.specs.Past.{beginning}
 use Rattle.vl_engine.specs.declared.fails.AtFail.{AtFail}
 use Rattle.vl_engine.specs.declared.fails.AtFail.TheVariants as gone

@@ -2,26 +2,26 @@
 ghost use Rattle.std.specs.Prelude.{◌≡◌, ◌≢◌, None, Some, IfOk, OnOk};
 ghost use Rattle.std.specs.Option.{option_map};
 ghost use Rattle.vl_disk.specs.Faults.{Rose, HasCause};
-ghost use Rattle.vl_sequential.specs.Sequential.{State};
+ghost use Rattle.vl_script_model.specs.Sequential.{State};
 ghost use Rattle.vl_replay.specs.Replaying.{StandsFor, TakesLines, disk_of};
-ghost use Rattle.vl_sequential.specs.Exchanges.{exchange_at, state_behind};
-ghost use Rattle.vl_sequential.specs.Endings.{TheDisk, TheSink, TheSource, CountsFaultsOf, CutsAnswer, EndsAs, culprit_of, line_number};
-ghost use Rattle.vl_sequential.specs.Runs.{Script};
-ghost use Rattle.vl_sequential.specs.Durable.{HoldsState, CarriesOut};
-ghost use Rattle.vl_sequential.specs.Stored.{IsStopped, IsStored};
-ghost use Rattle.vl_core.specs.Shown.{Shown};
-ghost use Rattle.vl_sequential.specs.Steps.{IsAnswered, IsNext, EndsAtBadLine, PrintsStep, DiskSteps};
-ghost use Rattle.vl_sequential.specs.Failing.{IsTableRead, ReaderFailed, beside};
-ghost use Rattle.vl_sequential.specs.Halts.{HaltsByDamage, HaltsByDisk, HaltsByRead, HaltsByReader};
-ghost use Rattle.vl_sequential.specs.Reading.{AnswersText, EndsBadly, IsLine, ReadsText};
-ghost use Rattle.vl_sequential.specs.declared.fails.Refusal.{Refusal};
+ghost use Rattle.vl_script_model.specs.Exchanges.{exchange_at, state_behind};
+ghost use Rattle.vl_script_model.specs.Endings.{TheDisk, TheSink, TheSource, CountsFaultsOf, CutsAnswer, EndsAs, culprit_of, line_number};
+ghost use Rattle.vl_script_model.specs.Runs.{Script};
+ghost use Rattle.vl_script_model.specs.Durable.{HoldsState, CarriesOut};
+ghost use Rattle.vl_script_model.specs.Stored.{IsStopped, IsStored};
+ghost use Rattle.vl_engine_laws.specs.Shown.{Shown};
+ghost use Rattle.vl_script_model.specs.Steps.{IsAnswered, IsNext, EndsAtBadLine, PrintsStep, DiskSteps};
+ghost use Rattle.vl_script_model.specs.Failing.{IsTableRead, ReaderFailed, beside};
+ghost use Rattle.vl_script_model.specs.Halts.{HaltsByDamage, HaltsByDisk, HaltsByRead, HaltsByReader};
+ghost use Rattle.vl_script_model.specs.Reading.{AnswersText, EndsBadly, IsLine, ReadsText};
+ghost use Rattle.vl_script_model.specs.declared.fails.Refusal.{Refusal};
 
 use crate::replayer::Replayer;
 use std::alloc::Global;
 use vl_disk::Disk;
 use vl_io::Sink;
 use vl_script::{NUMBER_ROOM, parse_line, print_answer, print_bad_line};
-use vl_sequential::{
+use vl_script_model::{
     DISK_FAULT, Ending, Halt, NO_MEMORY, OnFault, end_at_damage, end_at_fault, finish,
 };
 

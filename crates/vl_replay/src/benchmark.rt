@@ -9,14 +9,14 @@ ghost use Rattle.vl_recover.specs.declared.fails.OpenError.TheVariants as why;
 ghost use Rattle.vl_replay.specs.Benchmark.{PrintsSummary, exchanges_of, summary_of, summed};
 ghost use Rattle.vl_replay.specs.Replaying.{StandsFor, TakesLines, disk_of};
 ghost use Rattle.vl_script.specs.Summary.{none_counted, summary_text};
-ghost use Rattle.vl_sequential.specs.Asking.{AsksForRow};
-ghost use Rattle.vl_sequential.specs.Endings.{CountsFaultsOf, TheSink};
-ghost use Rattle.vl_sequential.specs.Failing.{ReaderFailed, beside};
-ghost use Rattle.vl_sequential.specs.Halts.{HaltsByDamage, HaltsByDisk, HaltsByReader};
-ghost use Rattle.vl_sequential.specs.Sequential.{State};
-ghost use Rattle.vl_sequential.specs.Trial.{begun};
-ghost use Rattle.vl_sequential.specs.Trying.{all_told};
-ghost use Rattle.vl_sequential.specs.declared.fails.Halt.TheVariants as halts;
+ghost use Rattle.vl_script_model.specs.Asking.{AsksForRow};
+ghost use Rattle.vl_script_model.specs.Endings.{CountsFaultsOf, TheSink};
+ghost use Rattle.vl_script_model.specs.Failing.{ReaderFailed, beside};
+ghost use Rattle.vl_script_model.specs.Halts.{HaltsByDamage, HaltsByDisk, HaltsByReader};
+ghost use Rattle.vl_script_model.specs.Sequential.{State};
+ghost use Rattle.vl_script_model.specs.Trial.{begun};
+ghost use Rattle.vl_script_model.specs.Trying.{all_told};
+ghost use Rattle.vl_script_model.specs.declared.fails.Halt.TheVariants as halts;
 
 use crate::replayer::Replayer;
 use std::alloc::Global;
@@ -25,7 +25,7 @@ use vl_io::Sink;
 use vl_mem::{SteadyReader, SureDisk};
 use vl_recover::OpenFail;
 use vl_script::{Gen, Summary, print_summary};
-use vl_sequential::{Ending, Halt, NO_MEMORY, finish};
+use vl_script_model::{Ending, Halt, NO_MEMORY, finish};
 
 /// Answers the lines that a seed and a number of rounds give, over an empty disk in memory, and prints a summary of the answers.
 pub fn bench<K: Sink>(alloc: Global, sink: &mut K, seed: u64, count: u32) -> Ending

@@ -6,22 +6,22 @@ ghost use Rattle.vl_engine.specs.Drawing.{drawn_core};
 ghost use Rattle.vl_engine.specs.Merging.{IsJustOpen};
 ghost use Rattle.vl_engine.specs.Removing.{Removes};
 ghost use Rattle.vl_engine.specs.UnderWay.{IsUnderWay as MayGiveUp};
-ghost use Rattle.vl_layout.specs.declared.job.Job as laid;
+ghost use Rattle.vl_engine_model.specs.declared.job.Job as laid;
 ghost use Rattle.vl_replay.specs.Drawn.{IsPlanned, Merged, drawn_all};
-ghost use Rattle.vl_sequential.specs.Failing.{ReaderFailed, beside};
-ghost use Rattle.vl_sequential.specs.Halts.{HaltsByDisk, HaltsByReader};
+ghost use Rattle.vl_script_model.specs.Failing.{ReaderFailed, beside};
+ghost use Rattle.vl_script_model.specs.Halts.{HaltsByDisk, HaltsByReader};
 ghost use Rattle.vl_replay.specs.Handed.{MayHandIn};
 ghost use Rattle.vl_replay.specs.Rounds.{HasLent, IsUnderWay, RoundLeaves, Rounds, StillLent, halt_by, round_by};
-ghost use Rattle.vl_sequential.specs.Sequential.{State};
+ghost use Rattle.vl_script_model.specs.Sequential.{State};
 ghost use Rattle.vl_replay.specs.declared.carrying.Round.TheVariants.{Made};
 
 use std::alloc::Global;
 use vl_compact::{Job, JobReader};
-use vl_disk::Disk;
+use vl_disk::{Disk, ReadFault};
 use vl_engine::{Engine, StepFail};
 use vl_model::Counter;
-use vl_sequential::Halt;
-use vl_table::{BlockReader, TableFault};
+use vl_script_model::Halt;
+use vl_table::BlockReader;
 use vl_version::Base;
 
 /// What a round of a merge came to.
@@ -126,13 +126,13 @@ fn make_table<D: Disk>(
 }
 
 // How a line ends whose merge couldn't read, or couldn't write beside the disk.
-fn halt_at(fault: TableFault) -> Halt
+fn halt_at(fault: ReadFault) -> Halt
     ensures { result ≡ halt_by fault }
 {
     match fault {
-        TableFault::NoMemory => Halt::NoMemory,
-        TableFault::Disk { name } => Halt::Read { name },
-        TableFault::Damaged { name, place } => Halt::Damaged { name, place },
+        ReadFault::NoMemory => Halt::NoMemory,
+        ReadFault::Disk { name } => Halt::Read { name },
+        ReadFault::Damaged { name, place } => Halt::Damaged { name, place },
     }
 }
 

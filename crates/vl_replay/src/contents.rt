@@ -3,18 +3,18 @@ ghost use Rattle.std.specs.Prelude.{◌≡◌, ◌≤◌, ◌<◌, ◌+◌, ◌^
 ghost use Rattle.std.specs.FinMap.{entries};
 ghost use Rattle.std.specs.Option.{ForSome};
 ghost use Rattle.vl_engine.specs.Reading.{OnlyReads};
-ghost use Rattle.vl_core.specs.Represents.{StandsFor};
+ghost use Rattle.vl_engine_laws.specs.Represents.{StandsFor};
 ghost use Rattle.vl_engine.specs.Sees.{SeesAlone};
-ghost use Rattle.vl_layout.specs.declared.layout.Layout.{Layout};
+ghost use Rattle.vl_engine_model.specs.declared.layout.Layout.{Layout};
 ghost use Rattle.vl_model.specs.History.{History, contents_at, last_number};
-ghost use Rattle.vl_sequential.specs.Contents.{AreRead};
-ghost use Rattle.vl_sequential.specs.Text.{reopened_text};
+ghost use Rattle.vl_script_model.specs.Contents.{AreRead};
+ghost use Rattle.vl_script_model.specs.Text.{reopened_text};
 
 use std::alloc::Global;
 use vl_disk::{Disk, HeldFile, Reader};
 use vl_engine::{Engine, ReadFail, Rows, View};
 use vl_model::Way;
-use vl_sequential::contents_text;
+use vl_script_model::contents_text;
 
 /// What is printed of a store that was just opened: the number of its last commit, and all that stands there. None where no view
 /// of it began, or some of it wasn't read.

@@ -15,4 +15,4 @@ pub use replayer::Replayer;
 pub use running::replay;
 pub use trying::trial;
 pub use vl_recover::{OpenError, OpenFail};
-pub use vl_sequential::{Ended, Ending, Halt, NO_MEMORY, Refusal, USAGE, finish};
+pub use vl_script_model::{Ended, Ending, Halt, NO_MEMORY, Refusal, USAGE, finish};

@@ -24,7 +24,7 @@ use std::alloc::Global;
 use vl_cache::Cached;
 use vl_disk::Disk;
 use vl_engine::Engine;
-use vl_sequential::Halt;
+use vl_script_model::Halt;
 use vl_version::Base;
 
 /// A store on a disk, and what reads it under a name.

@@ -3,22 +3,22 @@ ghost use Rattle.std.specs.Prelude.{◌≡◌, ◌≢◌, ◌⊎◌, ◌+◌, �
 ghost use Rattle.vl_disk.specs.Crash.{Image};
 ghost use Rattle.vl_disk.specs.DiskState.{DiskState};
 ghost use Rattle.vl_disk.specs.Started.{IsRead};
-ghost use Rattle.vl_sequential.specs.Sequential.{State};
+ghost use Rattle.vl_script_model.specs.Sequential.{State};
 ghost use Rattle.vl_replay.specs.Replaying.{StandsFor, TakesLines, disk_of};
-ghost use Rattle.vl_sequential.specs.Exchanges.{exchange_at, state_behind};
-ghost use Rattle.vl_sequential.specs.Endings.{TheDisk, TheSink, TheSource, CountsFaultsOf, EndsAs, culprit_of, line_number};
+ghost use Rattle.vl_script_model.specs.Exchanges.{exchange_at, state_behind};
+ghost use Rattle.vl_script_model.specs.Endings.{TheDisk, TheSink, TheSource, CountsFaultsOf, EndsAs, culprit_of, line_number};
 ghost use Rattle.std.specs.Option.{option_map};
 ghost use Rattle.vl_disk.specs.Faults.{Rose};
-ghost use Rattle.vl_sequential.specs.Runs.{Script, script_of, outside, EndsRun};
-ghost use Rattle.vl_sequential.specs.Failing.{ReaderFailed, beside};
-ghost use Rattle.vl_sequential.specs.Durable.{HoldsState, DiskEndsFrom};
-ghost use Rattle.vl_sequential.specs.Stored.{IsStopped, IsStored};
-ghost use Rattle.vl_core.specs.Shown.{Shown};
-ghost use Rattle.vl_sequential.specs.Start.{AnswersInput, EndsAtTables, StartsIn, StaysOpenable};
-ghost use Rattle.vl_sequential.specs.Opening.{IsRefused};
-ghost use Rattle.vl_sequential.specs.declared.fails.Refusal.{Refusal};
-ghost use Rattle.vl_sequential.specs.Reading.{AnswersText, HasRead, ReadsInput, ReadsOn, Streams, streams};
-ghost use Rattle.vl_sequential.specs.Steps.{IsNext, PrintsStep, DiskSteps, kept, HasToDo, Steps, IsRefusedRun, EndsWithoutOpening};
+ghost use Rattle.vl_script_model.specs.Runs.{Script, script_of, outside, EndsRun};
+ghost use Rattle.vl_script_model.specs.Failing.{ReaderFailed, beside};
+ghost use Rattle.vl_script_model.specs.Durable.{HoldsState, DiskEndsFrom};
+ghost use Rattle.vl_script_model.specs.Stored.{IsStopped, IsStored};
+ghost use Rattle.vl_engine_laws.specs.Shown.{Shown};
+ghost use Rattle.vl_script_model.specs.Start.{AnswersInput, EndsAtTables, StartsIn, StaysOpenable};
+ghost use Rattle.vl_script_model.specs.Opening.{IsRefused};
+ghost use Rattle.vl_script_model.specs.declared.fails.Refusal.{Refusal};
+ghost use Rattle.vl_script_model.specs.Reading.{AnswersText, HasRead, ReadsInput, ReadsOn, Streams, streams};
+ghost use Rattle.vl_script_model.specs.Steps.{IsNext, PrintsStep, DiskSteps, kept, HasToDo, Steps, IsRefusedRun, EndsWithoutOpening};
 
 use crate::answering::{answer, end_at_bad_line};
 use crate::replayer::Replayer;
@@ -26,7 +26,7 @@ use std::alloc::Global;
 use vl_disk::Disk;
 use vl_io::{Sink, Source};
 use vl_recover::OpenFail;
-use vl_sequential::{
+use vl_script_model::{
     Buffer, Ended, Ending, InputFail, NO_MEMORY, Next, OnFault, READ_FAULT, end_unopened, finish,
     read_line,
 };

@@ -6,12 +6,12 @@ ghost use Rattle.vl_mem.specs.StoppingDisk.{state_on};
 ghost use Rattle.vl_mem.specs.contracts.stopping_disk.StoppingDiskWatched.TheImpl as memory;
 ghost use Rattle.vl_mem.specs.contracts.steady_writer.SteadyWriterWriter.TheImpl as writing;
 ghost use Rattle.vl_model.specs.History.{History, last_number};
-ghost use Rattle.vl_sequential.specs.Endings.{TheSink, TheSource, CountsFaultsOf, culprit_of, status_of};
+ghost use Rattle.vl_script_model.specs.Endings.{TheSink, TheSource, CountsFaultsOf, culprit_of, status_of};
 ghost use Rattle.vl_engine.specs.Opening.{IsFault};
-ghost use Rattle.vl_sequential.specs.Reopens.{Reopens};
+ghost use Rattle.vl_script_model.specs.Reopens.{Reopens};
 ghost use Rattle.vl_replay.specs.Replaying.{StandsFor, TakesLines, disk_of};
-ghost use Rattle.vl_sequential.specs.Trial.{EndsTrial};
-ghost use Rattle.vl_sequential.specs.Trying.{ComesTo, IsOnTrial, PassesAndReopens, ReopensAs, StopsOpening, all_told, trial_of};
+ghost use Rattle.vl_script_model.specs.Trial.{EndsTrial};
+ghost use Rattle.vl_script_model.specs.Trying.{ComesTo, IsOnTrial, PassesAndReopens, ReopensAs, StopsOpening, all_told, trial_of};
 
 use crate::contents::store_text;
 use crate::replayer::Replayer;
@@ -23,7 +23,7 @@ use vl_io::{Sink, Source};
 use vl_mem::{Outcome, SteadyReader, StoppingDisk};
 use vl_model::MAX_ROOM;
 use vl_recover::{OpenError, OpenFail};
-use vl_sequential::{Ended, Ending, NO_MEMORY, OnFault, READ_FAULT, end_unopened, finish};
+use vl_script_model::{Ended, Ending, NO_MEMORY, OnFault, READ_FAULT, end_unopened, finish};
 
 /// Tries a script: answers the lines of a source over an empty disk in memory, of which each changing call behind so many
 /// fails. The line that meets the stop prints nothing, and the rest of the source is passed over. Then the store is opened

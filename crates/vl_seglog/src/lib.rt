@@ -23,7 +23,6 @@ mod staged;
 mod write;
 
 pub use active::ActiveLog;
-pub use fault::LogFault;
 pub use frame::{Commit, Frame, ReadRecord, Said};
 pub use laws::{pointers_lead_to_their_records, values_are_found_by_their_pointers};
 pub use lengths::LOG_HEADER_BYTES;

@@ -13,14 +13,14 @@ ghost use Rattle.vl_model.specs.Keys.{is_key_length, is_value_length, tagged};
 ghost use Rattle.vl_seglog.specs.Answers.{Answers};
 ghost use Rattle.vl_seglog.specs.Sealed.{IsFilled, MayLead};
 ghost use Rattle.vl_seglog.specs.Stored.{stored_at};
-ghost use Rattle.vl_seglog.specs.declared.fault.LogFault.TheVariants as why;
+ghost use Rattle.vl_disk.specs.declared.read_fault.ReadFault.TheVariants as why;
 
-use crate::fault::{LogFault, damaged};
+use crate::fault::damaged;
 use crate::record::record_head_bytes;
 use crate::sealed::fill::{fill, is_inside};
 use crate::sealed::front::{MAX_FRONT_BYTES, length_of_value, tag_in};
 use std::alloc::Global;
-use vl_disk::{HeldFile, Reader};
+use vl_disk::{HeldFile, ReadFault, Reader};
 use vl_model::{Pointer, Value};
 
 /// A log that is appended to no more, in a file that is held.
@@ -61,7 +61,7 @@ impl<H: HeldFile> SealedLog<H> {
         reader: &mut R,
         pointer: Pointer,
         key: &[u8],
-    ) -> Result<Value, LogFault>
+    ) -> Result<Value, ReadFault>
         requires { pointer.segment ≡ self.now.number }
         ensures answers { Answers (R.faults reader.old) (R.faults reader.new) self.now.number (H.bytes self.now.held)
             (λ bytes value. stored_at self.now.format bytes pointer key.now ≡ Some value)
@@ -85,7 +85,7 @@ impl<H: HeldFile> SealedLog<H> {
         pointer: Pointer,
         key: &[u8],
         out: &mut [u8],
-    ) -> Result<Filled, LogFault>
+    ) -> Result<Filled, ReadFault>
         requires { pointer.segment ≡ self.now.number }
         ensures answers { Answers (R.faults reader.old) (R.faults reader.new) self.now.number (H.bytes self.now.held)
             (λ bytes filled. IsFilled (stored_at self.now.format bytes pointer key.now) out.old out.new filled)
@@ -115,7 +115,7 @@ impl<H: HeldFile> SealedLog<H> {
         reader: &mut R,
         pointer: Pointer,
         key: &[u8],
-    ) -> Result<Lying, LogFault>
+    ) -> Result<Lying, ReadFault>
         ensures answers { Answers (R.faults reader.old) (R.faults reader.new) self.now.number (H.bytes self.now.held)
             (λ bytes lying. stored_at self.now.format bytes pointer key.now
             ≡ Some (tagged (bytes_at lying.place lying.length bytes) lying.tag))
@@ -146,7 +146,7 @@ impl<H: HeldFile> SealedLog<H> {
         key: &[u8],
         value_len: usize,
         front: &mut [u8],
-    ) -> Result<Lying, LogFault>
+    ) -> Result<Lying, ReadFault>
         requires key { is_key_length (length key.now) ≡ true }
         requires value { is_value_length self.now.format value_len ≡ true }
         requires front { length front.old ≡ record_head self.now.format + length key.now }

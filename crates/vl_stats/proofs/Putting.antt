@@ -10,8 +10,8 @@ use Rattle.std.specs.List.{AllByRecursion, filter, insert}
 use Rattle.std.specs.Ordering.{nat_cmp}
 use Rattle.std.specs.declared.cmp.Ordering.TheVariants.{Less, Equal, Greater}
 use Rattle.vl_model.specs.Entries.{by_order}
-use Rattle.vl_layout.specs.Garbage.{best_of, better_of, is_worth}
-use Rattle.vl_layout.specs.declared.segment.SegmentStat.{SegmentStat}
+use Rattle.vl_engine_model.specs.Garbage.{best_of, better_of, is_worth}
+use Rattle.vl_engine_model.specs.declared.segment.SegmentStat.{SegmentStat}
 use Rattle.vl_stats.specs.Places.{IsPlaceOf}
 
 -- ---- a log at its place

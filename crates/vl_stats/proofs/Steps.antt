@@ -4,9 +4,9 @@ use Rattle.std.specs.Prelude.{Option, ◌==◌, if◌then◌else◌}
 use Rattle.std.specs.List.{sum_by}
 use Rattle.std.proofs.lemmas.List.{take_all}
 use Rattle.std.proofs.lemmas.List.Sums.{sum_by-cons, sum_by_more}
-use Rattle.vl_block.specs.declared.points.Point.{Point}
-use Rattle.vl_layout.specs.Garbage.{live_bytes, pointed_bytes}
-use Rattle.vl_layout.specs.declared.table.Table.{Table}
+use Rattle.vl_model.specs.declared.point.Point.{Point}
+use Rattle.vl_engine_model.specs.Garbage.{live_bytes, pointed_bytes}
+use Rattle.vl_engine_model.specs.declared.table.Table.{Table}
 use Rattle.vl_stats.specs.Live.{AreOf, IsSwitch, bytes_of, points_of_tables}
 use Rattle.vl_stats.specs.Sums.{Adds, Takes, bytes_at}
 

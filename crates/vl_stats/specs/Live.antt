@@ -3,9 +3,9 @@ use Rattle.std.specs.Prelude.{◌≡◌, ◌+◌, ℕ, List, map, unwrap_or}
 use Rattle.std.specs.BTreeMap.{is_at}
 use Rattle.std.specs.Map.{lookup}
 use Rattle.std.specs.Ordering.{nat_cmp}
-use Rattle.vl_block.specs.declared.points.Point.{Point}
-use Rattle.vl_layout.specs.Garbage.{live_bytes}
-use Rattle.vl_layout.specs.declared.table.Table.{Table}
+use Rattle.vl_model.specs.declared.point.Point.{Point}
+use Rattle.vl_engine_model.specs.Garbage.{live_bytes}
+use Rattle.vl_engine_model.specs.declared.table.Table.{Table}
 
 -- of segments with their bytes, how many a segment has; one that isn't there has none
 abbrev pub bytes_of : List (ℕ × ℕ) → ℕ → ℕ

@@ -1,11 +1,11 @@
 -- What is kept of the logs that are sealed and not retired, and that it is so of a layout.
 use Rattle.std.specs.Prelude.{◌≡◌, ℕ, ◌-◌, min, Bool, not, ◌&&◌, ◌==◌, nat_lt, List, map}
-use Rattle.vl_layout.specs.Ruling.{Ruling}
-use Rattle.vl_layout.specs.Sources.{head, rising, tables}
-use Rattle.vl_layout.specs.Tidy.{sealed}
-use Rattle.vl_layout.specs.declared.layout.Layout.{Layout}
-use Rattle.vl_layout.specs.declared.segment.Segment.{Segment}
-use Rattle.vl_layout.specs.declared.segment.SegmentStat.{SegmentStat}
+use Rattle.vl_engine_model.specs.Ruling.{Ruling}
+use Rattle.vl_engine_model.specs.Sources.{head, rising, tables}
+use Rattle.vl_engine_model.specs.Tidy.{sealed}
+use Rattle.vl_engine_model.specs.declared.layout.Layout.{Layout}
+use Rattle.vl_engine_model.specs.declared.segment.Segment.{Segment}
+use Rattle.vl_engine_model.specs.declared.segment.SegmentStat.{SegmentStat}
 use Rattle.vl_stats.specs.Live.{AreOf, bytes_of}
 
 -- each log with its length in bytes; how many bytes of each segment are live; and how many more logs may be sealed without

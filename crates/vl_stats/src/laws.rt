@@ -1,7 +1,7 @@
 // Laws of live bytes: each is the contract of a function that does nothing.
 ghost use Rattle.std.specs.Prelude.{◌≡◌, ◌+◌, ◌++◌, ℕ, List};
-ghost use Rattle.vl_layout.specs.Garbage.{live_bytes};
-ghost use Rattle.vl_layout.specs.declared.table.Table.{Table};
+ghost use Rattle.vl_engine_model.specs.Garbage.{live_bytes};
+ghost use Rattle.vl_engine_model.specs.declared.table.Table.{Table};
 
 /// Where tables stay, those that were dropped stood beside them, and those that were added stand in front of them: so with
 /// the dropped ones the tables after a switch lead to as many bytes as those before it with the added ones.

@@ -5,7 +5,7 @@ use crate::sums::{self, Sums};
 use std::alloc::{AllocError, Global};
 use std::collections::BTreeMap;
 use std::marker::Model;
-use vl_block::Footer;
+use vl_table::Footer;
 
 /// How many bytes of each segment's records the tables of a version lead to, by their footers.
 #[derive(Drop)]

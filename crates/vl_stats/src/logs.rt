@@ -3,13 +3,13 @@ ghost use Rattle.std.specs.Prelude.{◌≡◌, ◌≤◌, ◌<◌, ◌+◌, IfOk
 ghost use Rattle.std.specs.FinMap.{put};
 ghost use Rattle.std.specs.List.{filter};
 ghost use Rattle.std.specs.Ordering.{nat_cmp};
-ghost use Rattle.vl_layout.specs.Rulings.Stats.{told};
+ghost use Rattle.vl_engine_model.specs.Rulings.Stats.{told};
 ghost use Rattle.vl_stats.specs.Places.{IsPlaceOf};
 ghost use Rattle.vl_stats.specs.Tallies.{share_by, stat_by, stays};
 
 use crate::LiveBytes;
 use std::alloc::{AllocError, Global};
-use vl_layout::SegmentStat;
+use vl_engine_model::SegmentStat;
 
 pub type Logs = Vec<(u32, u64)>;
 

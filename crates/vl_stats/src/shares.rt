@@ -1,12 +1,12 @@
 ghost use Rattle.std.specs.Prelude.{◌≡◌, ◌&&◌, nat_lt, if◌then◌else◌, map};
 ghost use Rattle.std.specs.List.{filter};
 ghost use Rattle.std.specs.Option.{option_map};
-ghost use Rattle.vl_layout.specs.Garbage.{best_of, better_of, is_worth};
+ghost use Rattle.vl_engine_model.specs.Garbage.{best_of, better_of, is_worth};
 ghost use Rattle.vl_stats.specs.Tallies.{share_by};
 
 use crate::LiveBytes;
 use crate::logs::share;
-use vl_layout::SegmentStat;
+use vl_engine_model::SegmentStat;
 
 /// Of the logs below head with at least so many per cent of garbage the one with the greatest share of it, of several the
 /// one with the least number. None where none has so much.

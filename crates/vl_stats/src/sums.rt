@@ -3,12 +3,13 @@ ghost use Rattle.std.specs.Prelude.{List, OnOk, [], ◌∷◌};
 ghost use Rattle.std.specs.List.{sum_by};
 ghost use Rattle.std.specs.Ordering.{nat_cmp};
 ghost use Rattle.std.specs.BTreeMap.{get};
-ghost use Rattle.vl_layout.specs.Garbage.{pointed_bytes};
+ghost use Rattle.vl_engine_model.specs.Garbage.{pointed_bytes};
 ghost use Rattle.vl_stats.specs.Sums.{Adds, Takes, HasNoEmpty};
 
 use std::alloc::AllocError;
 use std::collections::BTreeMap;
-use vl_block::{Footer, Point};
+use vl_model::Point;
+use vl_table::Footer;
 
 pub type Sums = BTreeMap<u32, u128>;
 

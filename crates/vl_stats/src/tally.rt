@@ -5,18 +5,18 @@ ghost use Rattle.std.specs.Option.{option_map};
 ghost use Rattle.std.specs.Ordering.{nat_cmp};
 ghost use Rattle.vl_model.specs.History.{History};
 ghost use Rattle.vl_model.specs.Winners.{Logs};
-ghost use Rattle.vl_layout.specs.Garbage.{best as best_of_layout, segment_bytes, stat_of};
-ghost use Rattle.vl_layout.specs.Jobs.{Made};
-ghost use Rattle.vl_layout.specs.Ruling.{Stepped};
-ghost use Rattle.vl_layout.specs.Rulings.Flush.{flush_ruling};
-ghost use Rattle.vl_layout.specs.Rulings.Install.{Installed, install_ruling};
-ghost use Rattle.vl_layout.specs.Rulings.Rotate.{rotate_ruling};
-ghost use Rattle.vl_layout.specs.Rulings.Stats.{stats_ruling};
-ghost use Rattle.vl_layout.specs.Sources.{head as head_of, rising, tables};
-ghost use Rattle.vl_layout.specs.Tidy.{IsTidy, sealed};
-ghost use Rattle.vl_layout.specs.declared.job.Job.{Job};
-ghost use Rattle.vl_layout.specs.declared.layout.Layout.{Layout};
-ghost use Rattle.vl_layout.specs.declared.segment.SegmentStat as stat;
+ghost use Rattle.vl_engine_model.specs.Garbage.{best as best_of_layout, segment_bytes, stat_of};
+ghost use Rattle.vl_engine_model.specs.Jobs.{Made};
+ghost use Rattle.vl_engine_model.specs.Ruling.{Stepped};
+ghost use Rattle.vl_engine_model.specs.Rulings.Flush.{flush_ruling};
+ghost use Rattle.vl_engine_model.specs.Rulings.Install.{Installed, install_ruling};
+ghost use Rattle.vl_engine_model.specs.Rulings.Rotate.{rotate_ruling};
+ghost use Rattle.vl_engine_model.specs.Rulings.Stats.{stats_ruling};
+ghost use Rattle.vl_engine_model.specs.Sources.{head as head_of, rising, tables};
+ghost use Rattle.vl_engine_model.specs.Tidy.{IsTidy, sealed};
+ghost use Rattle.vl_engine_model.specs.declared.job.Job.{Job};
+ghost use Rattle.vl_engine_model.specs.declared.layout.Layout.{Layout};
+ghost use Rattle.vl_engine_model.specs.declared.segment.SegmentStat as stat;
 ghost use Rattle.vl_stats.specs.Live.{Switches, points_of_tables};
 ghost use Rattle.vl_stats.specs.Tallies.{IsOfLayout, IsTally, length_of, lengths_of, stays};
 
@@ -25,8 +25,8 @@ use crate::logs::{Logs, put_log, retain, stats_of};
 use crate::shares::{best_below, segment_of};
 use std::alloc::{AllocError, Global};
 use std::marker::Model;
-use vl_block::Footer;
-use vl_layout::{SegmentStat, best_has_the_greatest_share};
+use vl_engine_model::{SegmentStat, best_has_the_greatest_share};
+use vl_table::Footer;
 
 /// What is kept of each log that is sealed and not retired: how long it is, and how much of it is live.
 #[derive(Drop)]

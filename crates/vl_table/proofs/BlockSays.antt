@@ -12,13 +12,13 @@ use Rattle.vl_model.specs.declared.entry.Body.{Body}
 use Rattle.vl_model.specs.declared.entry.Body.TheVariants.{Inline, Gone, Far, Logged}
 use Rattle.vl_model.specs.declared.entry.Entry.{Entry}
 use Rattle.vl_model.specs.declared.pointer.Pointer.{Pointer}
-use Rattle.vl_block.specs.Lists.{items_bytes}
-use Rattle.vl_block.specs.laws.BlockLaws.{entry_is_some}
-use Rattle.vl_block.specs.Blocks.{entries, SpellsBlock}
-use Rattle.vl_block.specs.Entries.{body_bytes, entry_bytes, inline_bytes, pointer_bytes, IsBody, IsEntry, IsInline, IsPointer}
-use Rattle.vl_block.specs.Formats.{has_tags}
-use Rattle.vl_block.specs.laws.EntryLaws.{entry-parts}
-use Rattle.vl_block.specs.declared.index.BlockPlace.{BlockPlace}
+use Rattle.vl_table.specs.body.Lists.{items_bytes}
+use Rattle.vl_table.specs.laws.BlockLaws.{entry_is_some}
+use Rattle.vl_table.specs.body.Blocks.{entries, SpellsBlock}
+use Rattle.vl_table.specs.body.Entries.{body_bytes, entry_bytes, inline_bytes, pointer_bytes, IsBody, IsEntry, IsInline, IsPointer}
+use Rattle.vl_model.specs.Formats.{has_tags}
+use Rattle.vl_table.specs.laws.EntryLaws.{entry-parts}
+use Rattle.vl_table.specs.declared.body.index.BlockPlace.{BlockPlace}
 use Rattle.vl_frame.specs.Frame.{check_of, frame_bytes}
 use Rattle.vl_frame.specs.declared.kinds.FrameKind.TheVariants as kinds
 use Rattle.vl_table.specs.Kept.{StandsBlock}

@@ -6,7 +6,7 @@ use Rattle.std.specs.List.{AllByRecursion, slice_get}
 use Rattle.std.proofs.Common.{ap, sym, subst, ◌∙◌, append_assoc}
 use Rattle.vl_model.specs.Cursors.{Keeps}
 use Rattle.vl_model.specs.declared.entry.Entry.{Entry}
-use Rattle.vl_run.specs.Order.{within}
+use Rattle.vl_model.specs.EntryOrder.{within}
 use Rattle.vl_table.specs.CursorLeft.{GoesOn, HasRead, ReadsNext, StaysIn, blocks_left, cursor_left, in_block, unread}
 use Rattle.vl_table.specs.CursorParts.{Block, StandsWith, block_count, blocks_at, blocks_over, entries_told, rise_over}
 use Rattle.vl_table.specs.Stretches.{on_way, stretch_of}

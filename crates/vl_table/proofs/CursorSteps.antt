@@ -11,9 +11,9 @@ use Rattle.vl_model.specs.Reads.{is_in_span}
 use Rattle.vl_model.specs.declared.entry.Entry.{Entry}
 use Rattle.vl_model.specs.declared.span.Span.{Span}
 use Rattle.vl_model.specs.declared.way.Way.{Way}
-use Rattle.vl_run.specs.Order.{within}
-use Rattle.vl_run.specs.laws.Places.{slice_get-within}
-use Rattle.vl_block.specs.declared.index.BlockPlace.{BlockPlace}
+use Rattle.vl_model.specs.EntryOrder.{within}
+use Rattle.vl_model.specs.laws.Places.{slice_get-within}
+use Rattle.vl_table.specs.declared.body.index.BlockPlace.{BlockPlace}
 use Rattle.vl_table.specs.BlockEntries.{block_entries}
 use Rattle.vl_table.specs.CursorParts.{Block, StandsWith, MayFailOn, StopsBefore, block_count, blocks_at, blocks_over}
 use Rattle.vl_table.specs.CursorParts.{entries_told, index_in, index_of, rise_over}
@@ -23,11 +23,11 @@ use Rattle.vl_table.specs.Tables.{number_of, shape_of}
 use Rattle.vl_table.specs.Answers.{Answers}
 use Rattle.vl_table.specs.Kept.{IsMissing, NoBlock, StandsBlock, id_of}
 use Rattle.vl_table.specs.Seeks.{IsBadBlock}
-use Rattle.vl_table.specs.declared.fault.TableFault.{TableFault}
-use Rattle.vl_table.specs.declared.fault.TableFault.TheVariants.{NoMemory, Disk, Damaged}
+use Rattle.vl_disk.specs.declared.read_fault.ReadFault.{ReadFault}
+use Rattle.vl_disk.specs.declared.read_fault.ReadFault.TheVariants.{NoMemory, Disk, Damaged}
 use Rattle.vl_table.specs.declared.slot.BlockId.{BlockId}
 use Rattle.vl_disk.specs.declared.name.Name.TheVariants.{Table as table_name}
-use Rattle.vl_block.specs.declared.shape.TableShape.{TableShape}
+use Rattle.vl_table.specs.declared.body.shape.TableShape.{TableShape}
 use Rattle.vl_table.specs.declared.stretch.Stretch.{Stretch}
 use Rattle.vl_table.specs.declared.table.Table.{Table}
 use Rattle.vl_table.proofs.BlockSays.{block_entries-says}
@@ -138,7 +138,7 @@ module _ {H : Type 0} where
   -- what a fault says of a block that wasn't read
   pub fails_at : (bytes_of : H → Option (List ℕ)) (ts : List (Table H)) (i : ℕ) (t : Table H) (s : TableShape)
       (held : H) (id : BlockId) (p : BlockPlace) (at before now : ℕ)
-      (good : List ℕ → Unit {0} → Type 0) (e : TableFault) → slice_get ts i ≡ Some t → s ≡ shape_of t → held ≡ t.held
+      (good : List ℕ → Unit {0} → Type 0) (e : ReadFault) → slice_get ts i ≡ Some t → s ≡ shape_of t → held ≡ t.held
       → id ≡ id_of s p → p ≡ get_or s.blocks.items at p
       → at < length s.blocks.items → Answers {T = Unit {0}} before now id.number (bytes_of held) good (IsMissing id)
       (Err e) → MayFailOn bytes_of ts e
@@ -162,7 +162,7 @@ module _ {H : Type 0} where
   -- where that is damage it is the next one
   pub stops_before : (bytes_of : H → Option (List ℕ)) (bs later : List (Block H)) (t : Table H) (s : TableShape)
       (held : H) (id : BlockId) (p : BlockPlace) (before now : ℕ)
-      (good : List ℕ → Unit {0} → Type 0) (e : TableFault) → bs ≡ (t, p) ∷ later → s ≡ shape_of t → held ≡ t.held → id ≡ id_of s p
+      (good : List ℕ → Unit {0} → Type 0) (e : ReadFault) → bs ≡ (t, p) ∷ later → s ≡ shape_of t → held ≡ t.held → id ≡ id_of s p
       → Answers {T = Unit {0}} before now id.number (bytes_of held) good (IsMissing id) (Err e) → StopsBefore bytes_of bs e
   stops_before bytes_of bs later t s held id p before now good NoMemory first shape is named a = tt
   stops_before bytes_of bs later t s held id p before now good (Disk name) first shape is named a = tt

@@ -4,13 +4,13 @@ use Rattle.std.specs.Prelude.{Some, get_or, length, slice_get}
 use Rattle.std.specs.List.{AllByRecursion, prefix_len}
 use Rattle.std.proofs.Common.{refl, ap, subst, ◌∙◌, arith}
 use Rattle.vl_model.specs.declared.entry.Entry.{Entry}
-use Rattle.vl_run.specs.Lookups.{IsParted, is_ahead}
-use Rattle.vl_run.specs.laws.Lookup.{rising-parted}
-use Rattle.vl_run.specs.laws.OrderLaws.{IsRising, before-all}
-use Rattle.vl_block.specs.Blocks.{IsBlock, entries}
-use Rattle.vl_block.specs.Entries.{IsEntry}
-use Rattle.vl_block.specs.Lists.{AreOrdered}
-use Rattle.vl_block.specs.Starts.{AreStarts, StartsAt}
+use Rattle.vl_model.specs.Lookups.{IsParted, is_ahead}
+use Rattle.vl_model.specs.laws.Lookup.{rising-parted}
+use Rattle.vl_model.specs.laws.OrderLaws.{IsRising, before-all}
+use Rattle.vl_table.specs.body.Blocks.{IsBlock, entries}
+use Rattle.vl_table.specs.body.Entries.{IsEntry}
+use Rattle.vl_table.specs.body.Lists.{AreOrdered}
+use Rattle.vl_table.specs.body.Starts.{AreStarts, StartsAt}
 
 -- the place is between these two
 pub record Between (low high place : ℕ) : Type 0 where

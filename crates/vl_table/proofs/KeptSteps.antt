@@ -12,7 +12,7 @@ use Rattle.vl_table.specs.Kept.{Files, HasBlock, HasFrame, IsKept, IsMissing, ha
 use Rattle.vl_table.specs.KeptBlocks.{AreKept}
 use Rattle.vl_table.specs.Used.{brought, is_among}
 use Rattle.vl_table.specs.declared.block_reader.BlockReader.{BlockReader}
-use Rattle.vl_table.specs.declared.fault.TableFault.{TableFault}
+use Rattle.vl_disk.specs.declared.read_fault.ReadFault.{ReadFault}
 use Rattle.vl_table.specs.declared.slot.BlockId.{BlockId}
 use Rattle.vl_table.specs.declared.slot.Slot.{Slot}
 
@@ -214,7 +214,7 @@ slot_has slot id bytes frame starts count es block frames all counts has = recor
 }
 
 -- a slot is kept after a reading, whatever that answered
-pub loaded-kept : (files : Files) (before now : ℕ) (told : Option (List ℕ)) (id : BlockId) (slot : Slot) (r : Result (Unit {0}) TableFault)
+pub loaded-kept : (files : Files) (before now : ℕ) (told : Option (List ℕ)) (id : BlockId) (slot : Slot) (r : Result (Unit {0}) ReadFault)
     → OnOk r (slot.block ≡ Some id) → OnErr r (slot.block ≡ None) → files id.number ≡ told
     → Answers before now id.number told (λ bytes (done : Unit {0}). (es : List Entry) × HasBlock slot id bytes es) (IsMissing id) r
     → IsKept files slot

@@ -1,23 +1,33 @@
 mod AnswerSteps
+mod Behind
 mod BlockSays
+pub mod BodySteps
+mod CursorLaws
+mod CursorSteps
 mod EntrySteps
+mod Finished
+mod Fits
 mod Headers
 mod KeptSteps
 mod Lookups
 mod MeetSteps
-mod CursorLaws
-mod CursorSteps
 mod OpenSteps
 mod OpeningSteps
 mod PartFaults
 mod Parts
+mod PointLaws
 mod ReadSteps
+pub mod Results
+pub mod ScanSteps
 mod SeekSteps
 mod SpanParts
 mod Stages
+pub mod StartSteps
 mod StretchSteps
 mod TestedSteps
 mod TrueTables
-pub mod Results
 mod WholeSpans
 mod WholeTables
+pub mod WriterBodies
+pub mod WriterResults
+mod Written

@@ -4,16 +4,16 @@ use Rattle.std.proofs.Common.{ap, sym, ◌∙◌, arith, Option}
 use Rattle.std.specs.List.{AllByRecursion, prefix_len}
 use Rattle.vl_model.specs.Winners.{winner, exact}
 use Rattle.vl_model.specs.declared.entry.Entry.{Entry}
-use Rattle.vl_block.specs.Cutting.{block_frame_length, blocks, last_key, joined}
-use Rattle.vl_block.specs.laws.CuttingLaws.{blocks-whole}
-use Rattle.vl_run.specs.Order.{IsInOrder}
-use Rattle.vl_run.specs.laws.OrderLaws.{IsBefore, IsRising, rising}
-use Rattle.vl_run.specs.laws.Lookup.{found_winner, rising-parted, found_exact}
-use Rattle.vl_run.specs.Lookups.{is_ahead, if_of_key, if_exact, or_else, is_below, first_failing, IsParted, first_over}
-use Rattle.vl_block.specs.declared.index.BlockPlace.{BlockPlace}
-use Rattle.vl_block.specs.Bytes.{block_places}
-use Rattle.vl_run.specs.laws.LookupLaws.{all-back, all-front, below-chain, first_failing-append, none_failing}
-use Rattle.vl_run.specs.laws.LookupLaws.{rising-back, rising-front, below-ahead}
+use Rattle.vl_model.specs.Cutting.{block_frame_length, blocks, last_key, joined}
+use Rattle.vl_model.specs.laws.CuttingLaws.{blocks-whole}
+use Rattle.vl_model.specs.EntryOrder.{IsInOrder}
+use Rattle.vl_model.specs.laws.OrderLaws.{IsBefore, IsRising, rising}
+use Rattle.vl_model.specs.laws.Lookup.{found_winner, rising-parted, found_exact}
+use Rattle.vl_model.specs.Lookups.{is_ahead, if_of_key, if_exact, or_else, is_below, first_failing, IsParted, first_over}
+use Rattle.vl_table.specs.declared.body.index.BlockPlace.{BlockPlace}
+use Rattle.vl_table.specs.body.Bytes.{block_places}
+use Rattle.vl_model.specs.laws.LookupLaws.{all-back, all-front, below-chain, first_failing-append, none_failing}
+use Rattle.vl_model.specs.laws.LookupLaws.{rising-back, rising-front, below-ahead}
 
 module _ (key : List ℕ) (version : ℕ) where
   -- where the last key of entries in order is below the key, they all come before its place

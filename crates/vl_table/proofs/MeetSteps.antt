@@ -2,10 +2,10 @@
 use Rattle.std.specs.Prelude.{◌≡◌, ◌+◌, ◌<◌, ℕ, List, [], ◌∷◌, length, drop, get_or, Option, Some, None}
 use Rattle.std.proofs.Common.{refl, sym, subst, ◌∙◌, ap}
 use Rattle.std.proofs.lemmas.List.{drop_more}
-use Rattle.vl_block.specs.declared.index.BlockPlace.{BlockPlace}
+use Rattle.vl_table.specs.declared.body.index.BlockPlace.{BlockPlace}
 use Rattle.vl_model.specs.declared.entry.Entry.{Entry}
-use Rattle.vl_run.specs.Lookups.{is_ahead, first_failing}
-use Rattle.vl_block.specs.declared.shape.TableShape.{TableShape}
+use Rattle.vl_model.specs.Lookups.{is_ahead, first_failing}
+use Rattle.vl_table.specs.declared.body.shape.TableShape.{TableShape}
 use Rattle.vl_table.specs.Kept.{StandsBlock}
 use Rattle.vl_table.specs.Meets.{MeetsFirst, Meets, passed_over, Rises, Looks}
 

@@ -6,12 +6,12 @@ use Rattle.std.proofs.lemmas.List.{drop-append-le, drop-drop, get_or-map, get_or
 use Rattle.vl_frame.specs.Frame.{check_of, frame_bytes}
 use Rattle.vl_frame.specs.declared.kinds.FrameKind.TheVariants as kinds
 use Rattle.vl_model.specs.declared.entry.Entry.{Entry}
-use Rattle.vl_block.specs.Blocks.{SpellsBlock, SpellsWalked, entries}
-use Rattle.vl_block.specs.Entries.{IsEntry, entry_bytes}
-use Rattle.vl_block.specs.Lists.{items_bytes}
-use Rattle.vl_block.specs.Starts.{AreStarts, StartsAt}
-use Rattle.vl_block.specs.laws.BlockLaws.{entry_is_some}
-use Rattle.vl_block.specs.laws.Lengths.{length-block_body}
+use Rattle.vl_table.specs.body.Blocks.{SpellsBlock, SpellsWalked, entries}
+use Rattle.vl_table.specs.body.Entries.{IsEntry, entry_bytes}
+use Rattle.vl_table.specs.body.Lists.{items_bytes}
+use Rattle.vl_table.specs.body.Starts.{AreStarts, StartsAt}
+use Rattle.vl_table.specs.laws.BlockLaws.{entry_is_some}
+use Rattle.vl_table.specs.laws.Lengths.{length-block_body}
 use Rattle.vl_table.specs.BlockEntries.{entry_in}
 use Rattle.vl_table.specs.Kept.{HasFrame, StandsBlock}
 use Rattle.vl_table.specs.declared.slot.BlockId.{BlockId}

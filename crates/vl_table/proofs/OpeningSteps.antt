@@ -1,13 +1,13 @@
 -- The stages of an opening, one behind the other.
 use Rattle.std.specs.Prelude.{ℕ, List, Option, Result, Ok}
 use Rattle.std.proofs.Common.{subst, ◌∙◌}
-use Rattle.vl_block.specs.Footer.{Foot, foot_of}
+use Rattle.vl_table.specs.body.Footer.{Foot, foot_of}
 use Rattle.vl_table.specs.Answers.{Answers}
 use Rattle.vl_table.specs.Begun.{IsBegun, IsInside}
 use Rattle.vl_table.proofs.Stages.{IsPlace, NoHeader, NoPlace, behind_place}
 use Rattle.vl_table.specs.Opening.{HasFooter, IsDamaged, IsRead, StandsFooter, no_filter, no_footer, no_index}
 use Rattle.vl_table.specs.OpeningParts.{HasParts, NoParts, NotLedTo, with_footer, without_filter, without_footer, without_index}
-use Rattle.vl_table.specs.declared.fault.TableFault.{TableFault}
+use Rattle.vl_disk.specs.declared.read_fault.ReadFault.{ReadFault}
 use Rattle.vl_table.specs.declared.opening.Parts.{Parts}
 
 module _ (format number : ℕ) (bytes : List ℕ) where
@@ -48,7 +48,7 @@ module _ (format number : ℕ) (bytes : List ℕ) where
 
 -- the last stage, behind the others
 pub opened : {T : Type 0} (format number : ℕ) (told : Option (List ℕ)) (a b c d place : ℕ) (good : List ℕ → T → Type 0)
-    (r : Result T TableFault)
+    (r : Result T ReadFault)
     → Answers {T = ℕ} a b number told (λ bytes f. IsBegun f number bytes) (NoHeader number) (Ok format)
     → Answers b c number told IsPlace NoPlace (Ok place)
     → Answers {T = T} c d number told good (NoParts format number place) r

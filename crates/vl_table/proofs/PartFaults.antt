@@ -1,20 +1,20 @@
 -- A fault of one stage of an opening is a fault of the whole.
 use Rattle.std.specs.Prelude.{◌≡◌, ℕ, List, Option, Some, Ok, Err}
-use Rattle.vl_block.specs.Footer.{Foot, foot_of}
-use Rattle.vl_block.specs.declared.footer.Footer.{Footer}
-use Rattle.vl_block.specs.declared.footer_head.FramePlace.{FramePlace}
-use Rattle.vl_block.specs.declared.index.BlockPlace.{BlockPlace}
+use Rattle.vl_table.specs.body.Footer.{Foot, foot_of}
+use Rattle.vl_table.specs.declared.body.footer.Footer.{Footer}
+use Rattle.vl_table.specs.declared.body.footer_head.FramePlace.{FramePlace}
+use Rattle.vl_table.specs.declared.body.index.BlockPlace.{BlockPlace}
 use Rattle.vl_table.specs.Answers.{Answers}
 use Rattle.vl_table.specs.Begun.{IsBegun}
 use Rattle.vl_table.specs.Opening.{IsDamaged, StandsFooter, StandsIndex, no_place}
 use Rattle.vl_table.specs.OpeningParts.{NoFilter, NoFooter, NoIndex, NoParts, NotLedTo, with_footer, without_filter}
-use Rattle.vl_table.specs.declared.fault.TableFault.{TableFault}
+use Rattle.vl_disk.specs.declared.read_fault.ReadFault.{ReadFault}
 use Rattle.vl_table.proofs.AnswerSteps.{and_then, fails}
 use Rattle.vl_table.proofs.Stages.{IsPlace, NoHeader, NoPlace}
 
 -- of reading the filter behind the index
 pub filter_fails : {V W T : Type 0} (places : V → List BlockPlace) (a b c number : ℕ) (told : Option (List ℕ))
-    (f : Foot) (p : FramePlace) (blocks : V) (e : TableFault)
+    (f : Foot) (p : FramePlace) (blocks : V) (e : ReadFault)
     (read : List ℕ → W → Type 0) (good : List ℕ → T → Type 0) → f.head.filter ≡ Some p
     → Answers {T = V} a b number told
     (λ bytes v. StandsIndex number bytes f.head.index_place f.head.index_length (places v))
@@ -27,7 +27,7 @@ filter_fails {V = V} places a b c number told f p blocks e read good named first
     (fails b c number told read good (NoFilter number p) (NoFilter number p) e (λ bytes told_is damage none. none) second)
 
 -- of reading what the footer leads to
-pub led_fails : {S T : Type 0} (a b c format number place : ℕ) (told : Option (List ℕ)) (footer : Footer) (e : TableFault)
+pub led_fails : {S T : Type 0} (a b c format number place : ℕ) (told : Option (List ℕ)) (footer : Footer) (e : ReadFault)
     (read : List ℕ → S → Type 0) (good : List ℕ → T → Type 0)
     → Answers {T = Footer} a b number told (λ bytes f. StandsFooter format number bytes place (foot_of f))
     (NoFooter format number place) (Ok footer)
@@ -41,7 +41,7 @@ led_fails a b c format number place told footer e read good first second =
     (λ bytes told_is damage none. none) second)
 
 -- of reading the footer's place
-pub place_fails : {T : Type 0} (a b c format number : ℕ) (told : Option (List ℕ)) (e : TableFault) (good : List ℕ → T → Type 0)
+pub place_fails : {T : Type 0} (a b c format number : ℕ) (told : Option (List ℕ)) (e : ReadFault) (good : List ℕ → T → Type 0)
     → Answers {T = ℕ} a b number told (λ bytes f. IsBegun f number bytes) (NoHeader number) (Ok format)
     → Answers {T = ℕ} b c number told IsPlace NoPlace (Err e) → Answers {T = T} a c number told good (IsDamaged number) (Err e)
 place_fails a b c format number told e good first second =

@@ -7,9 +7,9 @@ use Rattle.vl_frame.specs.declared.kinds.FileKind.TheVariants as files
 use Rattle.vl_frame.specs.declared.kinds.FrameKind.TheVariants as kinds
 use Rattle.vl_frame.specs.laws.Laws.{length-frame_bytes, one_frame}
 use Rattle.vl_model.specs.declared.entry.Entry.{Entry}
-use Rattle.vl_block.specs.Blocks.{IsSomeBlock, SpellsBlock, SpellsWalked}
-use Rattle.vl_block.specs.Starts.{AreStarts}
-use Rattle.vl_block.specs.laws.WalkedLaws.{walked_block}
+use Rattle.vl_table.specs.body.Blocks.{IsSomeBlock, SpellsBlock, SpellsWalked}
+use Rattle.vl_table.specs.body.Starts.{AreStarts}
+use Rattle.vl_table.specs.laws.WalkedLaws.{walked_block}
 use Rattle.vl_table.specs.Begun.{FrameAt}
 use Rattle.vl_table.specs.Kept.{HasFrame, StandsBlock}
 use Rattle.vl_table.specs.declared.slot.BlockId.{BlockId}

@@ -4,17 +4,17 @@ use Rattle.std.specs.List.{prefix_len}
 use Rattle.std.specs.Option.{ForSome, option_map}
 use Rattle.std.proofs.Common.{drop_of_length-le, refl, ap, sym, subst, ◌∙◌, arith}
 use Rattle.vl_model.specs.declared.entry.Entry.{Entry}
-use Rattle.vl_run.specs.Lookups.{if_of_key, is_ahead, is_below, IsParted, first_failing, first_over}
-use Rattle.vl_run.specs.Order.{IsInOrder}
-use Rattle.vl_run.specs.laws.OrderLaws.{rising}
-use Rattle.vl_run.specs.laws.PartLaws.{goes_behind, none_over, stops_in}
-use Rattle.vl_block.specs.Bytes.{table_bytes}
-use Rattle.vl_block.specs.Cutting.{blocks, joined}
-use Rattle.vl_block.specs.Founds.{found_of}
-use Rattle.vl_block.specs.declared.found.Found.{Found}
-use Rattle.vl_block.specs.declared.index.BlockPlace.{BlockPlace}
-use Rattle.vl_block.specs.laws.CuttingLaws.{blocks-whole, blocks-some}
-use Rattle.vl_block.specs.laws.Places.{length-block_places}
+use Rattle.vl_model.specs.Lookups.{if_of_key, is_ahead, is_below, IsParted, first_failing, first_over}
+use Rattle.vl_model.specs.EntryOrder.{IsInOrder}
+use Rattle.vl_model.specs.laws.OrderLaws.{rising}
+use Rattle.vl_model.specs.laws.PartLaws.{goes_behind, none_over, stops_in}
+use Rattle.vl_table.specs.body.Bytes.{table_bytes}
+use Rattle.vl_model.specs.Cutting.{blocks, joined}
+use Rattle.vl_table.specs.body.Founds.{found_of}
+use Rattle.vl_table.specs.declared.body.found.Found.{Found}
+use Rattle.vl_table.specs.declared.body.index.BlockPlace.{BlockPlace}
+use Rattle.vl_model.specs.laws.CuttingLaws.{blocks-whole, blocks-some}
+use Rattle.vl_table.specs.laws.Places.{length-block_places}
 use Rattle.vl_table.specs.Answers.{Answers}
 use Rattle.vl_table.specs.Kept.{Files, HasBlock, NoBlock, id_of}
 use Rattle.vl_table.specs.KeptBlocks.{AreKept}
@@ -24,7 +24,7 @@ use Rattle.vl_table.specs.Seeks.{IsBadBlock}
 use Rattle.vl_table.specs.declared.entries.Scan.TheVariants as scans
 use Rattle.vl_table.specs.Tables.{IsOf, number_of, shape_of}
 use Rattle.vl_table.specs.declared.block_reader.BlockReader.{BlockReader}
-use Rattle.vl_table.specs.declared.fault.TableFault.{TableFault}
+use Rattle.vl_disk.specs.declared.read_fault.ReadFault.{ReadFault}
 use Rattle.vl_table.specs.declared.slot.Slot.{Slot}
 use Rattle.vl_table.specs.declared.table.Table.{Table}
 use Rattle.vl_table.specs.laws.TablePlaces.{BlockAt}
@@ -73,7 +73,7 @@ seeks bytes_of t key version files before b at kept first = record {
 
 module _ {H : Type 0} (bytes_of : H → Option (List ℕ)) (t : Table H) (key : List ℕ) (version : ℕ) (i : ℕ) (p : BlockPlace)
     (within : i < length (shape_of t).blocks.items) (found : p ≡ get_or (shape_of t).blocks.items i p) where
-  pub load_fails : (a b c : ℕ) (slot : Slot) (e : TableFault) → b ≡ a
+  pub load_fails : (a b c : ℕ) (slot : Slot) (e : ReadFault) → b ≡ a
       → Answers {T = Unit {0}} b c (number_of t) (bytes_of t.held) (Loaded t p slot) (NoBlock (shape_of t).format (number_of t) p) (Err e)
       → Answers {T = Option Found} a c (number_of t) (bytes_of t.held) (Finds bytes_of t key version) (IsBadBlock (shape_of t)) (Err e)
   load_fails a b c slot e same load =

@@ -2,7 +2,7 @@
 use Rattle.std.specs.Prelude.{◌≡◌, ◌+◌, ◌&&◌, ℕ, suc, Bool, true, false, not, List, [], ◌∷◌, drop}
 use Rattle.std.specs.List.{AllByRecursion, list_all, prefix_len}
 use Rattle.std.proofs.Common.{cond, refl, ap, sym, ◌∙◌, arith}
-use Rattle.vl_run.specs.Lookups.{IsParted}
+use Rattle.vl_model.specs.Lookups.{IsParted}
 use Rattle.vl_table.specs.SpanBlocks.{is_parted}
 
 and_left : (a b : Bool) → a && b ≡ true → a ≡ true

@@ -3,7 +3,7 @@ use Rattle.std.specs.Prelude.{◌≡◌, ◌-◌, ℕ, List, length, Option, Res
 use Rattle.vl_table.specs.Answers.{Answers}
 use Rattle.vl_table.proofs.AnswerSteps.{and_then}
 use Rattle.vl_table.specs.Begun.{IsBegun, IsInside, said_place}
-use Rattle.vl_table.specs.declared.fault.TableFault.{TableFault}
+use Rattle.vl_disk.specs.declared.read_fault.ReadFault.{ReadFault}
 
 -- what each stage reads, and its damage
 abbrev pub NoHeader : ℕ → List ℕ → ℕ → Type 0
@@ -17,7 +17,7 @@ NoPlace bytes damage = (IsInside bytes (said_place bytes) → ⊥) × (damage �
 
 -- what comes behind both
 pub behind_place : {T : Type 0} (format number : ℕ) (told : Option (List ℕ)) (a b c d place : ℕ)
-    (good : List ℕ → T → Type 0) (bad worst : List ℕ → ℕ → Type 0) (r : Result T TableFault)
+    (good : List ℕ → T → Type 0) (bad worst : List ℕ → ℕ → Type 0) (r : Result T ReadFault)
     → Answers {T = ℕ} a b number told (λ bytes f. IsBegun f number bytes) (NoHeader number) (Ok format)
     → Answers b c number told IsPlace NoPlace (Ok place)
     → ((bytes : List ℕ) → IsBegun format number bytes → IsPlace bytes place → (damage : ℕ) → bad bytes damage → worst bytes damage)

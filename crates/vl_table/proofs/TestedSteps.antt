@@ -8,7 +8,7 @@ use Rattle.vl_frame.specs.Frame.{frame_bytes, frame_length}
 use Rattle.vl_frame.specs.laws.Laws.{length-frame_bytes}
 use Rattle.vl_frame.specs.declared.kinds.FrameKind.TheVariants as kinds
 use Rattle.vl_table.specs.Begun.{FrameAt}
-use Rattle.vl_block.specs.Blocks.{SpellsBlock}
+use Rattle.vl_table.specs.body.Blocks.{SpellsBlock}
 use Rattle.vl_model.specs.declared.entry.Entry.{Entry}
 use Rattle.vl_table.specs.Tested.{IsBlockFrame, IsFrameOf, IsTested, body_in}
 use Rattle.vl_table.specs.declared.slot.BlockId.{BlockId}

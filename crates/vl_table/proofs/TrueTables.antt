@@ -15,27 +15,27 @@ use Rattle.vl_frame.specs.declared.kinds.FileKind.TheVariants as files
 use Rattle.vl_frame.specs.declared.kinds.FrameKind.TheVariants as kinds
 use Rattle.vl_model.specs.Formats.{table_format}
 use Rattle.vl_model.specs.declared.entry.Entry.{Entry}
-use Rattle.vl_block.specs.Cutting.{blocks, filter_frame_length, keys_of}
-use Rattle.vl_block.specs.Footer.{Foot, SpellsFooter, footer_body}
-use Rattle.vl_block.specs.Formats.{has_filter}
-use Rattle.vl_block.specs.laws.FooterLaws.{one_footer}
-use Rattle.vl_block.specs.Index.{index_body, places}
-use Rattle.vl_block.specs.laws.ListLaws.{one_list}
-use Rattle.vl_block.specs.declared.footer_head.FramePlace.{FramePlace}
-use Rattle.vl_block.specs.declared.index.BlockPlace.{BlockPlace}
+use Rattle.vl_model.specs.Cutting.{blocks, filter_frame_length, keys_of}
+use Rattle.vl_table.specs.body.Footer.{Foot, SpellsFooter, footer_body}
+use Rattle.vl_model.specs.Formats.{has_filter}
+use Rattle.vl_table.specs.laws.FooterLaws.{one_footer}
+use Rattle.vl_table.specs.body.Index.{index_body, places}
+use Rattle.vl_table.specs.laws.ListLaws.{one_list}
+use Rattle.vl_table.specs.declared.body.footer_head.FramePlace.{FramePlace}
+use Rattle.vl_table.specs.declared.body.index.BlockPlace.{BlockPlace}
 use Rattle.vl_table.specs.declared.table.Table.{Table}
-use Rattle.vl_block.specs.Shapes.{IsShapeOf}
-use Rattle.vl_block.specs.declared.shape.TableShape.{TableShape}
-use Rattle.vl_block.specs.Bytes.{IsTable, block_places, blocks_bytes, filter_bits, filter_place, filter_said, foot}
-use Rattle.vl_block.specs.Bytes.{footer_bytes, footer_place, index_bytes, index_place, table_bytes}
-use Rattle.vl_block.specs.laws.Lengths.{length-filter_frame, length-footer, length-index, length-table_bytes}
+use Rattle.vl_table.specs.body.Shapes.{IsShapeOf}
+use Rattle.vl_table.specs.declared.body.shape.TableShape.{TableShape}
+use Rattle.vl_table.specs.body.Bytes.{IsTable, block_places, blocks_bytes, filter_bits, filter_place, filter_said, foot}
+use Rattle.vl_table.specs.body.Bytes.{footer_bytes, footer_place, index_bytes, index_place, table_bytes}
+use Rattle.vl_table.specs.laws.Lengths.{length-filter_frame, length-footer, length-index, length-table_bytes}
 use Rattle.vl_table.specs.Opening.{HasFooter, IsDamaged, IsRead, Said, StandsFilter, StandsFooter, StandsIndex}
 use Rattle.vl_table.specs.Opening.{no_filter, no_footer, no_header, no_index, no_place, said_by, said_of}
 use Rattle.vl_table.specs.Begun.{IsBegun, IsInside, said_place}
 use Rattle.vl_table.specs.laws.TablePlaces.{behind_index, drop-end, drop-filter, drop-footer, drop-index}
 use Rattle.vl_table.specs.Tables.{OpensAs, number_of, shape_of}
-use Rattle.vl_table.specs.declared.fault.TableFault.{TableFault}
-use Rattle.vl_table.specs.declared.fault.TableFault.TheVariants.{NoMemory, Disk, Damaged}
+use Rattle.vl_disk.specs.declared.read_fault.ReadFault.{ReadFault}
+use Rattle.vl_disk.specs.declared.read_fault.ReadFault.TheVariants.{NoMemory, Disk, Damaged}
 use Rattle.vl_table.specs.Answers.{Answers}
 
 -- ---- one reading
@@ -204,7 +204,7 @@ shape_is number format es s is numbered one =
     }
 
 pub opens_as : {H : Type 0} (bytes_of : H → Option (List ℕ)) (before now number : ℕ) (held : H) (format : ℕ)
-    (es : List Entry) (r : Result (Table H) TableFault)
+    (es : List Entry) (r : Result (Table H) ReadFault)
     → Answers before now number (bytes_of held) (λ bytes (t : Table H). IsRead number bytes (said_by (shape_of t))) (IsDamaged number) r
     → IfOk r (λ (t : Table H). number_of t ≡ number) → IfOk r (λ (t : Table H). t.held ≡ held) → 1 ≤ format → format ≤ table_format
     → IsTable format number es → bytes_of held ≡ Some (table_bytes format number es) → OpensAs bytes_of es r

@@ -15,14 +15,14 @@ use Rattle.vl_model.specs.declared.entry.Entry.{Entry}
 use Rattle.vl_model.specs.declared.span.Span.{Span}
 use Rattle.vl_model.specs.declared.way.Way.{Way}
 use Rattle.vl_model.specs.declared.way.Way.TheVariants.{Up, Down}
-use Rattle.vl_run.specs.Lookups.{IsParted}
-use Rattle.vl_run.specs.Order.{within}
-use Rattle.vl_run.specs.laws.LookupLaws.{all-back, all-front, rising-back, rising-front}
-use Rattle.vl_run.specs.laws.OrderLaws.{IsBefore, IsRising}
-use Rattle.vl_block.specs.Bytes.{block_places}
-use Rattle.vl_block.specs.Cutting.{block_frame_length, first_key, joined, last_key}
-use Rattle.vl_block.specs.declared.index.BlockPlace.{BlockPlace}
-use Rattle.vl_block.specs.laws.Places.{length-block_places}
+use Rattle.vl_model.specs.Lookups.{IsParted}
+use Rattle.vl_model.specs.EntryOrder.{within}
+use Rattle.vl_model.specs.laws.LookupLaws.{all-back, all-front, rising-back, rising-front}
+use Rattle.vl_model.specs.laws.OrderLaws.{IsBefore, IsRising}
+use Rattle.vl_table.specs.body.Bytes.{block_places}
+use Rattle.vl_model.specs.Cutting.{block_frame_length, first_key, joined, last_key}
+use Rattle.vl_table.specs.declared.body.index.BlockPlace.{BlockPlace}
+use Rattle.vl_table.specs.laws.Places.{length-block_places}
 use Rattle.vl_table.specs.SpanBlocks.{blocks_of, ends_before, ends_within, rises_over}
 use Rattle.vl_table.specs.Stretches.{on_way, stretch_of}
 use Rattle.vl_table.specs.laws.KeyRanges.{all_map, below_up_to, keys_up, up_to_below}

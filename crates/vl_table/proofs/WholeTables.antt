@@ -11,12 +11,12 @@ use Rattle.vl_model.specs.declared.entry.Entry.{Entry}
 use Rattle.vl_model.specs.declared.span.Span.{Span}
 use Rattle.vl_model.specs.declared.way.Way.{Way}
 use Rattle.vl_model.specs.declared.way.Way.TheVariants.{Up, Down}
-use Rattle.vl_run.specs.Order.{IsInOrder, along, within}
-use Rattle.vl_run.specs.laws.OrderLaws.{rising}
-use Rattle.vl_block.specs.Bytes.{IsTable, block_places, table_bytes}
-use Rattle.vl_block.specs.Cutting.{block_frame_length, blocks, joined, last_key}
-use Rattle.vl_block.specs.declared.index.BlockPlace.{BlockPlace}
-use Rattle.vl_block.specs.laws.CuttingLaws.{blocks-some, blocks-whole}
+use Rattle.vl_model.specs.EntryOrder.{IsInOrder, along, within}
+use Rattle.vl_model.specs.laws.OrderLaws.{rising}
+use Rattle.vl_table.specs.body.Bytes.{IsTable, block_places, table_bytes}
+use Rattle.vl_model.specs.Cutting.{block_frame_length, blocks, joined, last_key}
+use Rattle.vl_table.specs.declared.body.index.BlockPlace.{BlockPlace}
+use Rattle.vl_model.specs.laws.CuttingLaws.{blocks-some, blocks-whole}
 use Rattle.vl_table.specs.BlockEntries.{block_entries}
 use Rattle.vl_table.specs.CursorParts.{Block, blocks_at, blocks_over, entries_told, index_of, rise_over}
 use Rattle.vl_table.specs.OfTables.{AreOf}

@@ -3,32 +3,32 @@ use Rattle.std.specs.Prelude.{◌≡◌, ℕ, List, Option, Result, Ok, Err}
 use Rattle.std.specs.Option.{ForSome}
 use Rattle.vl_disk.specs.Faults.{HasCause}
 use Rattle.vl_disk.specs.declared.name.Name.TheVariants.{Table as table_name}
-use Rattle.vl_table.specs.declared.fault.TableFault.{TableFault}
-use Rattle.vl_table.specs.declared.fault.TableFault.TheVariants.{NoMemory, Disk, Damaged}
+use Rattle.vl_disk.specs.declared.read_fault.ReadFault.{ReadFault}
+use Rattle.vl_disk.specs.declared.read_fault.ReadFault.TheVariants.{NoMemory, Disk, Damaged}
 
 -- reading failed
-abbrev pub Failed : {T : Type 0} → Result T TableFault → Type 0
+abbrev pub Failed : {T : Type 0} → Result T ReadFault → Type 0
 Failed (Ok x) = ⊥
 Failed (Err NoMemory) = ⊥
 Failed (Err (Disk name)) = Unit {0}
 Failed (Err (Damaged name place)) = ⊥
 
 -- a fault names the table with this number
-abbrev pub IsNamed : {T : Type 0} → ℕ → Result T TableFault → Type 0
+abbrev pub IsNamed : {T : Type 0} → ℕ → Result T ReadFault → Type 0
 IsNamed number (Ok x) = Unit {0}
 IsNamed number (Err NoMemory) = Unit {0}
 IsNamed number (Err (Disk name)) = name ≡ table_name number
 IsNamed number (Err (Damaged name place)) = name ≡ table_name number
 
 -- what is answered is good, and where damage is answered it is there
-abbrev pub IsAnswer : {T : Type 0} → (T → Type 0) → (ℕ → Type 0) → Result T TableFault → Type 0
+abbrev pub IsAnswer : {T : Type 0} → (T → Type 0) → (ℕ → Type 0) → Result T ReadFault → Type 0
 IsAnswer good bad (Ok x) = good x
 IsAnswer good bad (Err NoMemory) = Unit {0}
 IsAnswer good bad (Err (Disk name)) = Unit {0}
 IsAnswer good bad (Err (Damaged name place)) = bad place
 
 -- the answer is never want of memory
-abbrev pub NeedsNoMemory : {T : Type 0} → Result T TableFault → Type 0
+abbrev pub NeedsNoMemory : {T : Type 0} → Result T ReadFault → Type 0
 NeedsNoMemory (Ok x) = Unit {0}
 NeedsNoMemory (Err NoMemory) = ⊥
 NeedsNoMemory (Err (Disk name)) = Unit {0}
@@ -37,7 +37,7 @@ NeedsNoMemory (Err (Damaged name place)) = Unit {0}
 -- Of the table with this number and these bytes, where they are told, this is answered: what is good of the bytes, or a
 -- place at which it is bad; and reading failed only where that was counted.
 pub record Answers {T : Type 0} (before now number : ℕ) (told : Option (List ℕ))
-    (good : List ℕ → T → Type 0) (bad : List ℕ → ℕ → Type 0) (result : Result T TableFault) : Type 0 where
+    (good : List ℕ → T → Type 0) (bad : List ℕ → ℕ → Type 0) (result : Result T ReadFault) : Type 0 where
   pub cause : HasCause before now (Failed result)
   pub named : IsNamed number result
   pub answer : ForSome told (λ bytes. IsAnswer (good bytes) (bad bytes) result)

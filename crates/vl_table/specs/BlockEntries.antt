@@ -8,9 +8,9 @@ use Rattle.vl_model.specs.declared.entry.Body.{Body}
 use Rattle.vl_model.specs.declared.entry.Body.TheVariants.{Inline, Gone, Far}
 use Rattle.vl_model.specs.declared.entry.Entry.{Entry}
 use Rattle.vl_model.specs.declared.pointer.Pointer.{Pointer}
-use Rattle.vl_block.specs.Entries.{entry_bytes}
-use Rattle.vl_block.specs.Formats.{has_tags}
-use Rattle.vl_block.specs.declared.index.BlockPlace.{BlockPlace}
+use Rattle.vl_table.specs.body.Entries.{entry_bytes}
+use Rattle.vl_model.specs.Formats.{has_tags}
+use Rattle.vl_table.specs.declared.body.index.BlockPlace.{BlockPlace}
 
 -- a pointer's three numbers
 unfoldable pub pointer_in : List ℕ → Pointer

@@ -5,7 +5,7 @@ use Rattle.std.specs.Prelude.{◌≡◌, ◌+◌, ◌*◌, ◌-◌, ℕ, if◌th
 use Rattle.std.specs.List.{slice_get}
 use Rattle.std.specs.Option.{option_map}
 use Rattle.vl_model.specs.declared.entry.Entry.{Entry}
-use Rattle.vl_run.specs.Order.{within}
+use Rattle.vl_model.specs.EntryOrder.{within}
 use Rattle.vl_table.specs.CursorParts.{AllStand, Block, StandsWith, block_count, blocks_at, blocks_over, entries_told, rise_over}
 use Rattle.vl_table.specs.Stretches.{on_way, stretch_of}
 use Rattle.vl_table.specs.declared.cursor.TableCursor.{TableCursor}

@@ -5,8 +5,8 @@ use Rattle.std.specs.Option.{ForSome, option_and_then, option_map}
 use Rattle.vl_model.specs.declared.entry.Entry.{Entry}
 use Rattle.vl_model.specs.declared.span.Span.{Span}
 use Rattle.vl_model.specs.declared.way.Way.{Way}
-use Rattle.vl_run.specs.Order.{within}
-use Rattle.vl_block.specs.declared.index.BlockPlace.{BlockPlace}
+use Rattle.vl_model.specs.EntryOrder.{within}
+use Rattle.vl_table.specs.declared.body.index.BlockPlace.{BlockPlace}
 use Rattle.vl_disk.specs.declared.name.Name.{Name}
 use Rattle.vl_disk.specs.declared.name.Name.TheVariants.{Table as table_name}
 use Rattle.vl_table.specs.BlockEntries.{block_entries}
@@ -15,8 +15,8 @@ use Rattle.vl_table.specs.Seeks.{IsBadBlock}
 use Rattle.vl_table.specs.SpanBlocks.{blocks_in, rises_over}
 use Rattle.vl_table.specs.Stretches.{on_way, stretch_of}
 use Rattle.vl_table.specs.Tables.{number_of, shape_of}
-use Rattle.vl_table.specs.declared.fault.TableFault.{TableFault}
-use Rattle.vl_table.specs.declared.fault.TableFault.TheVariants.{NoMemory, Disk, Damaged}
+use Rattle.vl_disk.specs.declared.read_fault.ReadFault.{ReadFault}
+use Rattle.vl_disk.specs.declared.read_fault.ReadFault.TheVariants.{NoMemory, Disk, Damaged}
 use Rattle.vl_table.specs.declared.stretch.Stretch.{Stretch}
 use Rattle.vl_table.specs.declared.table.Table.{Table}
 
@@ -70,7 +70,7 @@ module _ {H : Type 0} where
 
     -- What a fault of a cursor over tables may be: want of memory, or one that names one of them; and where it says that this
     -- table is damaged, a block that its index names doesn't stand there.
-    abbrev pub MayFailOn : List (Table H) → TableFault → Type 0
+    abbrev pub MayFailOn : List (Table H) → ReadFault → Type 0
     MayFailOn ts NoMemory = Unit {0}
     MayFailOn ts (Disk name) = (i : ℕ) × (t : Table H) × (slice_get ts i ≡ Some t) × (name ≡ table_name (number_of t))
     MayFailOn ts (Damaged name place) = (i : ℕ) × (t : Table H) × (slice_get ts i ≡ Some t) × (name ≡ table_name (number_of t))
@@ -85,13 +85,13 @@ module _ {H : Type 0} where
       pub none : ForSome (bytes_of block.0.held) (λ bytes. NoBlock (shape_of block.0).format (number_of block.0) block.1 bytes place)
 
     -- so it is where the fault is damage
-    abbrev pub StopsBefore : List (Block H) → TableFault → Type 0
+    abbrev pub StopsBefore : List (Block H) → ReadFault → Type 0
     StopsBefore bs NoMemory = Unit {0}
     StopsBefore bs (Disk name) = Unit {0}
     StopsBefore bs (Damaged name place) = IsFirstBad bs name place
 
 -- whether reading failed
-abbrev pub is_disk_fault : TableFault → Bool
+abbrev pub is_disk_fault : ReadFault → Bool
 is_disk_fault NoMemory = false
 is_disk_fault (Disk name) = true
 is_disk_fault (Damaged name place) = false

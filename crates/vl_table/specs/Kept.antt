@@ -3,10 +3,10 @@ use Rattle.std.specs.Prelude.{◌≡◌, ◌==◌, ◌&&◌, ℕ, Bool, false, L
 use Rattle.vl_frame.specs.Frame.{frame_bytes}
 use Rattle.vl_frame.specs.declared.kinds.FrameKind.TheVariants as kinds
 use Rattle.vl_model.specs.declared.entry.Entry.{Entry}
-use Rattle.vl_block.specs.Blocks.{SpellsBlock}
-use Rattle.vl_block.specs.Starts.{AreStarts}
-use Rattle.vl_block.specs.declared.index.BlockPlace.{BlockPlace}
-use Rattle.vl_block.specs.declared.shape.TableShape.{TableShape}
+use Rattle.vl_table.specs.body.Blocks.{SpellsBlock}
+use Rattle.vl_table.specs.body.Starts.{AreStarts}
+use Rattle.vl_table.specs.declared.body.index.BlockPlace.{BlockPlace}
+use Rattle.vl_table.specs.declared.body.shape.TableShape.{TableShape}
 use Rattle.vl_table.specs.Begun.{FrameAt}
 use Rattle.vl_table.specs.declared.slot.BlockId.{BlockId}
 use Rattle.vl_table.specs.declared.slot.Slot.{Slot}

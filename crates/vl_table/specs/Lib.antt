@@ -20,4 +20,6 @@ pub mod Tables
 pub mod Tested
 pub mod Used
 pub mod Worked
+pub mod body
 pub mod laws
+pub mod writer

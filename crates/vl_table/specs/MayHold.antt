@@ -5,7 +5,7 @@ use Rattle.vl_filter.specs.Filters.{passes}
 use Rattle.vl_model.specs.Keys.{key_cmp}
 use Rattle.vl_model.specs.Reads.{is_from, is_up_to}
 use Rattle.vl_model.specs.declared.span.Span.{Span}
-use Rattle.vl_block.specs.declared.shape.TableShape.{TableShape}
+use Rattle.vl_table.specs.declared.body.shape.TableShape.{TableShape}
 
 -- the key isn't below the first, nor above the last
 abbrev pub is_in_range : List ℕ → TableShape → Bool

@@ -3,13 +3,13 @@
 use Rattle.std.specs.Prelude.{◌≡◌, ℕ, List, [], ◌∷◌, drop, Option, Some, None, Result, Ok, Err}
 use Rattle.std.specs.List.{prefix_len}
 use Rattle.std.specs.Option.{ForSome, option_map}
-use Rattle.vl_block.specs.declared.index.BlockPlace.{BlockPlace}
+use Rattle.vl_table.specs.declared.body.index.BlockPlace.{BlockPlace}
 use Rattle.vl_model.specs.declared.entry.Entry.{Entry}
-use Rattle.vl_table.specs.declared.fault.TableFault.{TableFault}
-use Rattle.vl_run.specs.Lookups.{is_ahead, is_below, IsParted, first_failing}
-use Rattle.vl_block.specs.Founds.{found_of}
-use Rattle.vl_block.specs.declared.found.Found.{Found}
-use Rattle.vl_block.specs.declared.shape.TableShape.{TableShape}
+use Rattle.vl_disk.specs.declared.read_fault.ReadFault.{ReadFault}
+use Rattle.vl_model.specs.Lookups.{is_ahead, is_below, IsParted, first_failing}
+use Rattle.vl_table.specs.body.Founds.{found_of}
+use Rattle.vl_table.specs.declared.body.found.Found.{Found}
+use Rattle.vl_table.specs.declared.body.shape.TableShape.{TableShape}
 use Rattle.vl_table.specs.Kept.{StandsBlock}
 use Rattle.vl_table.specs.Tables.{shape_of}
 use Rattle.vl_table.specs.declared.table.Table.{Table}
@@ -45,7 +45,7 @@ pub record Looks (makes : Option Entry → Option Entry) (s : TableShape) (key :
 
 -- an answer is so, of a table that tells its bytes
 abbrev pub LooksIn : {H : Type 0} → (H → Option (List ℕ)) → (makes : Option Entry → Option Entry) → Table H → List ℕ → ℕ
-    → Result (Option Found) TableFault → Type 0
+    → Result (Option Found) ReadFault → Type 0
 LooksIn bytes_of makes t key version (Ok found) =
     ForSome (bytes_of t.held) (λ bytes. Looks makes (shape_of t) key version bytes (option_map (found_of key) found))
 LooksIn bytes_of makes t key version (Err e) = Unit {0}

@@ -2,8 +2,8 @@
 use Rattle.std.specs.Prelude.{◌≡◌, ◌≤◌, ℕ, List, drop, length, map, take}
 use Rattle.std.specs.List.{AllByRecursion}
 use Rattle.vl_model.specs.declared.entry.Entry.{Entry}
-use Rattle.vl_block.specs.Entries.{IsEntry}
-use Rattle.vl_block.specs.Starts.{StartsAt}
+use Rattle.vl_table.specs.body.Entries.{IsEntry}
+use Rattle.vl_table.specs.body.Starts.{StartsAt}
 use Rattle.vl_table.specs.BlockEntries.{entry_in}
 
 -- an entry that a table may have begins at a place of the bytes

@@ -5,13 +5,13 @@ use Rattle.vl_frame.specs.Frame.{IsSpelled}
 use Rattle.vl_frame.specs.declared.kinds.FileKind.TheVariants as files
 use Rattle.vl_frame.specs.declared.kinds.FrameKind.TheVariants as kinds
 use Rattle.vl_model.specs.declared.entry.Entry.{Entry}
-use Rattle.vl_block.specs.Bytes.{block_places, filter_bits, foot, footer_place}
-use Rattle.vl_block.specs.Cutting.{blocks}
-use Rattle.vl_block.specs.Footer.{Foot, SpellsFooter, foot_of}
-use Rattle.vl_block.specs.Index.{SpellsIndex}
-use Rattle.vl_block.specs.declared.footer_head.FramePlace.{FramePlace}
-use Rattle.vl_block.specs.declared.index.BlockPlace.{BlockPlace}
-use Rattle.vl_block.specs.declared.shape.TableShape.{TableShape}
+use Rattle.vl_table.specs.body.Bytes.{block_places, filter_bits, foot, footer_place}
+use Rattle.vl_model.specs.Cutting.{blocks}
+use Rattle.vl_table.specs.body.Footer.{Foot, SpellsFooter, foot_of}
+use Rattle.vl_table.specs.body.Index.{SpellsIndex}
+use Rattle.vl_table.specs.declared.body.footer_head.FramePlace.{FramePlace}
+use Rattle.vl_table.specs.declared.body.index.BlockPlace.{BlockPlace}
+use Rattle.vl_table.specs.declared.body.shape.TableShape.{TableShape}
 use Rattle.vl_table.specs.Begun.{FrameAt, IsBegun, IsInside, said_place}
 
 -- a footer stands at the front of the bytes, which are those of the table from a place on, and says this

@@ -1,8 +1,8 @@
 -- What a footer's place leads to, and what of it may be missing.
 use Rattle.std.specs.Prelude.{◌≡◌, ℕ, Some, List}
-use Rattle.vl_block.specs.Footer.{Foot, foot_of}
-use Rattle.vl_block.specs.declared.footer_head.FramePlace.{FramePlace}
-use Rattle.vl_block.specs.declared.index.BlockPlace.{BlockPlace}
+use Rattle.vl_table.specs.body.Footer.{Foot, foot_of}
+use Rattle.vl_table.specs.declared.body.footer_head.FramePlace.{FramePlace}
+use Rattle.vl_table.specs.declared.body.index.BlockPlace.{BlockPlace}
 use Rattle.vl_table.specs.Opening.{FilterAt, StandsFilter, StandsFooter, StandsIndex}
 use Rattle.vl_table.specs.declared.opening.Parts.{Parts}
 

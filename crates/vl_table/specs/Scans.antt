@@ -1,10 +1,10 @@
 -- The entries of a block, and what a look-up in them says.
 use Rattle.std.specs.Prelude.{◌≡◌, ℕ, List, Option, Some, None}
 use Rattle.vl_model.specs.declared.entry.Entry.{Entry}
-use Rattle.vl_run.specs.Lookups.{if_of_key}
-use Rattle.vl_block.specs.Blocks.{IsBlock}
-use Rattle.vl_block.specs.Founds.{found_of}
-use Rattle.vl_block.specs.Starts.{AreStarts}
+use Rattle.vl_model.specs.Lookups.{if_of_key}
+use Rattle.vl_table.specs.body.Blocks.{IsBlock}
+use Rattle.vl_table.specs.body.Founds.{found_of}
+use Rattle.vl_table.specs.body.Starts.{AreStarts}
 use Rattle.vl_table.specs.declared.entries.Entries.{Entries}
 use Rattle.vl_table.specs.declared.entries.Scan.{Scan}
 use Rattle.vl_table.specs.declared.entries.Scan.TheVariants as scans

@@ -1,7 +1,7 @@
 -- A block that the index names and that does not stand.
 use Rattle.std.specs.Prelude.{◌≡◌, ◌<◌, ℕ, List, length, get_or}
-use Rattle.vl_block.specs.declared.index.BlockPlace.{BlockPlace}
-use Rattle.vl_block.specs.declared.shape.TableShape.{TableShape}
+use Rattle.vl_table.specs.declared.body.index.BlockPlace.{BlockPlace}
+use Rattle.vl_table.specs.declared.body.shape.TableShape.{TableShape}
 use Rattle.vl_table.specs.Kept.{NoBlock}
 
 -- a block that the index names doesn't stand where and as long as it says: there the table is damaged

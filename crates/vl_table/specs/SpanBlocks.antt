@@ -3,8 +3,8 @@ use Rattle.std.specs.Prelude.{◌+◌, Bool, ◌&&◌, if◌then◌else◌, not,
 use Rattle.std.specs.List.{list_all, prefix_len}
 use Rattle.vl_model.specs.Reads.{is_from, is_up_to}
 use Rattle.vl_model.specs.declared.span.Span.{Span}
-use Rattle.vl_block.specs.declared.index.BlockPlace.{BlockPlace}
-use Rattle.vl_block.specs.declared.shape.TableShape.{TableShape}
+use Rattle.vl_table.specs.declared.body.index.BlockPlace.{BlockPlace}
+use Rattle.vl_table.specs.declared.body.shape.TableShape.{TableShape}
 use Rattle.vl_table.specs.declared.stretch.Stretch.{Stretch}
 
 -- a block's last key is below the interval, and isn't above it

@@ -3,11 +3,11 @@ use Rattle.std.specs.Prelude.{◌≡◌, ℕ, List, Option, Some, Result, Ok, Er
 use Rattle.std.specs.Arc.{arc_value}
 use Rattle.vl_disk.specs.declared.name.Name.{Name}
 use Rattle.vl_model.specs.declared.entry.Entry.{Entry}
-use Rattle.vl_block.specs.Bytes.{table_bytes}
-use Rattle.vl_block.specs.Shapes.{IsShapeOf}
-use Rattle.vl_block.specs.declared.shape.TableShape.{TableShape}
-use Rattle.vl_table.specs.declared.fault.TableFault.{TableFault}
-use Rattle.vl_table.specs.declared.fault.TableFault.TheVariants.{NoMemory, Disk, Damaged}
+use Rattle.vl_table.specs.body.Bytes.{table_bytes}
+use Rattle.vl_table.specs.body.Shapes.{IsShapeOf}
+use Rattle.vl_table.specs.declared.body.shape.TableShape.{TableShape}
+use Rattle.vl_disk.specs.declared.read_fault.ReadFault.{ReadFault}
+use Rattle.vl_disk.specs.declared.read_fault.ReadFault.TheVariants.{NoMemory, Disk, Damaged}
 use Rattle.vl_table.specs.declared.table.Table.{Table}
 
 module _ {H : Type 0} where
@@ -31,7 +31,7 @@ module _ {H : Type 0} where
     pub named : name_of u.held ≡ name_of t.held
 
   -- a true table is opened as what it is, and never damaged
-  abbrev pub OpensAs : (H → Option (List ℕ)) → List Entry → Result (Table H) TableFault → Type 0
+  abbrev pub OpensAs : (H → Option (List ℕ)) → List Entry → Result (Table H) ReadFault → Type 0
   OpensAs bytes_of es (Ok t) = IsOf bytes_of t es
   OpensAs bytes_of es (Err NoMemory) = Unit {0}
   OpensAs bytes_of es (Err (Disk name)) = Unit {0}

@@ -1,6 +1,6 @@
 -- Blocks that were tested.
 use Rattle.std.specs.Prelude.{◌≡◌, ◌-◌, ◌<◌, ◌^◌, ℕ, List, Option, Some, drop, length, take}
-use Rattle.vl_block.specs.Blocks.{IsSomeBlock}
+use Rattle.vl_table.specs.body.Blocks.{IsSomeBlock}
 use Rattle.vl_disk.specs.DiskState.{bytes_at}
 use Rattle.vl_frame.specs.Frame.{frame_bytes, frame_length}
 use Rattle.vl_frame.specs.declared.kinds.FrameKind.TheVariants as kinds

@@ -5,10 +5,10 @@ ghost use Rattle.vl_table.specs.Answers.{Answers};
 ghost use Rattle.vl_table.specs.Begun.{HasHeader, IsBegun, IsInside, said_place};
 ghost use Rattle.vl_table.specs.ReadAhead.{IsAhead};
 
-use crate::fault::{TableFault, damaged};
+use crate::fault::damaged;
 use crate::reading::{Ahead, fill, fill_from};
 use byteorder::{BigEndian, ByteOrder};
-use vl_disk::{HeldFile, Reader};
+use vl_disk::{HeldFile, ReadFault, Reader};
 use vl_frame::{FileKind, HEADER_BYTES, read_header};
 use vl_model::TABLE_FORMAT;
 
@@ -20,7 +20,7 @@ pub fn read_begin<H: HeldFile, R: Reader<Held = H>>(
     reader: &mut R,
     held: &H,
     number: u32,
-) -> Result<u32, TableFault>
+) -> Result<u32, ReadFault>
     ensures answers { Answers (R.faults reader.old) (R.faults reader.new) number (H.bytes held.now)
         (λ bytes format. IsBegun format number bytes)
         (λ bytes damage. ((format : ℕ) → IsBegun format number bytes → ⊥) × (damage ≡ 0)) result }
@@ -51,7 +51,7 @@ pub fn read_place<H: HeldFile, R: Reader<Held = H>>(
     held: &H,
     ahead: &Ahead,
     number: u32,
-) -> Result<u64, TableFault>
+) -> Result<u64, ReadFault>
     requires long { 24 ≤ H.size held.now }
     requires ahead { IsAhead (H.bytes held.now) ahead.now }
     ensures answers { Answers (R.faults reader.old) (R.faults reader.new) number (H.bytes held.now)

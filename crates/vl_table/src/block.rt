@@ -3,7 +3,7 @@
 ghost use Rattle.std.specs.Prelude.{◌≡◌, ◌+◌, ◌≤◌, ℕ, true, false, IfOk, IsTrue, List, Some, drop, length, take};
 ghost use Rattle.std.specs.List.{AllByRecursion};
 ghost use Rattle.vl_model.specs.declared.entry.Entry.{Entry};
-ghost use Rattle.vl_block.specs.Blocks.{IsSomeBlock};
+ghost use Rattle.vl_table.specs.body.Blocks.{IsSomeBlock};
 ghost use Rattle.vl_frame.specs.Frame.{frame_bytes};
 ghost use Rattle.vl_frame.specs.declared.kinds.FrameKind.TheVariants as kinds;
 ghost use Rattle.vl_table.specs.Answers.{Answers, NeedsNoMemory};
@@ -12,13 +12,13 @@ ghost use Rattle.vl_table.specs.OpenBlocks.{Begins};
 ghost use Rattle.vl_table.specs.Kept.{HasFrame, IsMissing, StandsBlock};
 ghost use Rattle.vl_table.specs.Tested.{IsTested};
 
-use crate::fault::{TableFault, damaged};
+use crate::body::{MAX_BLOCK_ENTRIES, find_starts};
+use crate::fault::damaged;
 use crate::part::{body_of, read_into};
 use crate::reading::fill;
 use crate::slot::{BlockId, MAX_FRAME_BYTES};
 use crate::tested::Tested;
-use vl_block::{MAX_BLOCK_ENTRIES, find_starts};
-use vl_disk::{HeldFile, Reader};
+use vl_disk::{HeldFile, ReadFault, Reader};
 use vl_frame::FrameKind;
 
 /// Reads the frame of the block with an index to the front of one slice, and puts to the front of another where its entries
@@ -31,7 +31,7 @@ pub fn read_block<H: HeldFile, R: Reader<Held = H>>(
     id: BlockId,
     frame: &mut [u8],
     starts: &mut [u16],
-) -> Result<usize, TableFault>
+) -> Result<usize, ReadFault>
     requires frame { length frame.old ≡ MAX_FRAME_BYTES }
     requires starts { length starts.old ≡ MAX_BLOCK_ENTRIES }
     ensures answers { Answers (R.faults reader.old) (R.faults reader.new) id.number (H.bytes held.now)
@@ -75,7 +75,7 @@ fn read_tested<H: HeldFile, R: Reader<Held = H>>(
     at: usize,
     id: BlockId,
     frame: &mut [u8],
-) -> Result<bool, TableFault>
+) -> Result<bool, ReadFault>
     requires inside { id.place + length frame.old ≤ H.size held.now }
     requires sized { length frame.old ≡ id.length }
     ensures answers { Answers (R.faults reader.old) (R.faults reader.new) id.number (H.bytes held.now)

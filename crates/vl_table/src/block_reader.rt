@@ -2,7 +2,7 @@
 
 ghost use Rattle.std.specs.Prelude.{◌≡◌, ◌<◌, ◌-◌, ◌∷◌, [], ℕ, List, Ok, None, OnOk, OnErr, IfOk, true, length, get_or};
 ghost use Rattle.vl_model.specs.declared.entry.Entry.{Entry};
-ghost use Rattle.vl_block.specs.declared.index.BlockPlace.{BlockPlace};
+ghost use Rattle.vl_table.specs.declared.body.index.BlockPlace.{BlockPlace};
 ghost use Rattle.vl_disk.specs.Faults.{HasCause};
 ghost use Rattle.vl_table.specs.Answers.{Answers, Failed, NeedsNoMemory};
 ghost use Rattle.vl_table.specs.Kept.{Files, HasBlock, IsMissing, NoBlock, has_block, id_of};
@@ -12,13 +12,12 @@ ghost use Rattle.vl_table.specs.Used.{brought};
 ghost use Rattle.vl_table.specs.declared.slot.BlockId.{BlockId};
 
 use crate::entries::Entries;
-use crate::fault::TableFault;
 use crate::slot::{BlockId, Slot};
 use crate::table::Table;
 use crate::tested::Tested;
 use std::alloc::{AllocError, Global};
 use std::mem;
-use vl_disk::{HeldFile, Reader};
+use vl_disk::{HeldFile, ReadFault, Reader};
 use vl_filter::LastKey;
 
 /// How many blocks a transaction, a view or a job keeps.
@@ -66,11 +65,7 @@ impl<R: Reader> BlockReader<R> {
     ghost use Rattle.vl_table.specs.KeptBlocks.{AreKept, ReadsOf, keeps};
 
     /// Brings a block of a table to the front, and reads it where it isn't kept. After a fault one slot is empty.
-    pub(crate) fn load<H: HeldFile>(
-        &mut self,
-        table: &Table<H>,
-        at: usize,
-    ) -> Result<(), TableFault>
+    pub(crate) fn load<H: HeldFile>(&mut self, table: &Table<H>, at: usize) -> Result<(), ReadFault>
     where
         R: Reader<Held = H>,
         requires { at < length (shape_of table.now).blocks.items }
@@ -106,7 +101,7 @@ impl<R: Reader> BlockReader<R> {
         tested: &Tested<H>,
         at: usize,
         id: BlockId,
-    ) -> Result<(), TableFault>
+    ) -> Result<(), ReadFault>
     where
         R: Reader<Held = H>,
         ensures kept { (files : Files) → AreKept files self.old → files id.number ≡ H.bytes held.now → AreKept files self.new }

@@ -4,7 +4,6 @@ ghost use Rattle.std.specs.Prelude.{◌≤◌, length};
 ghost use Rattle.std.specs.List.{slice_get};
 ghost use Rattle.vl_table.specs.CursorParts.{index_in};
 
-use crate::fault::TableFault;
 use crate::open_block::OpenBlock;
 use crate::slot::BlockId;
 use crate::span_blocks::{blocks_in, is_in_span};
@@ -12,7 +11,7 @@ use crate::stretch::Stretch;
 use crate::table::Table;
 use std::alloc::{AllocError, Global};
 use std::marker::PhantomData;
-use vl_disk::{HeldFile, Reader};
+use vl_disk::{HeldFile, ReadFault, Reader};
 use vl_model::{Cursor, Entry, Span, Way};
 
 /// The entries of tables whose keys are in an interval, one after the other. It shares the tables, and is read with any
@@ -43,9 +42,9 @@ impl<H: HeldFile, R: Reader<Held = H> + Drop> Cursor for TableCursor<H, R> {
     ghost use Rattle.vl_model.specs.Cursors.{Gives, IsCounted, Keeps, Spends};
     ghost use Rattle.vl_table.specs.CursorLeft.{GoesOn, HasRead, cursor_budget, cursor_left, unread};
     ghost use Rattle.vl_table.specs.CursorParts.{MayFailOn, StopsBefore, is_disk_fault};
-    ghost use Rattle.vl_table.specs.declared.fault.TableFault.{TableFault};
+    ghost use Rattle.vl_disk.specs.declared.read_fault.ReadFault.{ReadFault};
 
-    type Fault = TableFault;
+    type Fault = ReadFault;
 
     type Reader = R;
 
@@ -59,7 +58,7 @@ impl<H: HeldFile, R: Reader<Held = H> + Drop> Cursor for TableCursor<H, R> {
 
     ghost may_fail = { λ c fault. MayFailOn H.bytes c.tables.items fault };
 
-    fn next(&mut self, reader: &mut R) -> Result<Option<Entry>, TableFault>
+    fn next(&mut self, reader: &mut R) -> Result<Option<Entry>, ReadFault>
         // What each cursor promises.
         ensures given { IfOk result (λ next. Gives (cursor_left H.bytes self.old) (cursor_left H.bytes self.new) next) }
         ensures kept { OnErr result (Keeps (cursor_left H.bytes self.old) (cursor_left H.bytes self.new)) }
@@ -68,7 +67,7 @@ impl<H: HeldFile, R: Reader<Held = H> + Drop> Cursor for TableCursor<H, R> {
         ensures cause { MatchResult result (λ _. R.faults reader.new ≡ R.faults reader.old)
             (λ fault. IsCounted (is_disk_fault fault) (R.faults reader.old) (R.faults reader.new)) }
         ensures may_fail { IfErr result (λ fault. MayFailOn H.bytes self.old.tables.items fault) }
-        ensures keeps { (fault : TableFault) → MayFailOn H.bytes self.new.tables.items fault
+        ensures keeps { (fault : ReadFault) → MayFailOn H.bytes self.new.tables.items fault
             → MayFailOn H.bytes self.old.tables.items fault }
 
         // Each block that it read stood; where one doesn't, that is the next again.
@@ -92,14 +91,14 @@ impl<H: HeldFile, R: Reader<Held = H> + Drop> TableCursor<H, R> {
     ghost use Rattle.std.specs.Prelude.{IfErr, IfNone, IfOk, IfSome, IsFalse, IsTrue, MatchResult, OnErr, OnOk};
     ghost use Rattle.vl_model.specs.Cursors.{IsCounted};
     ghost use Rattle.vl_model.specs.declared.entry.Entry.{Entry};
-    ghost use Rattle.vl_run.specs.Order.{along, within};
-    ghost use Rattle.vl_block.specs.Cutting.{joined};
+    ghost use Rattle.vl_model.specs.EntryOrder.{along, within};
+    ghost use Rattle.vl_model.specs.Cutting.{joined};
     ghost use Rattle.vl_table.specs.CursorLeft.{EndsAt, GoesOn, HasNotRead, ReadsNext, StaysIn};
     ghost use Rattle.vl_table.specs.CursorLeft.{blocks_left, cursor_budget, in_block, unread};
     ghost use Rattle.vl_table.specs.CursorParts.{MayFailOn, StopsBefore, is_disk_fault, rise_over};
     ghost use Rattle.vl_table.specs.Stretches.{IsNextOn};
     ghost use Rattle.vl_table.specs.OfTables.{AreOf};
-    ghost use Rattle.vl_table.specs.declared.fault.TableFault.{TableFault};
+    ghost use Rattle.vl_disk.specs.declared.read_fault.ReadFault.{ReadFault};
 
     /// A cursor over the entries of these tables, as they stand in the list, whose keys are in an interval. It reads nothing
     /// yet. All its memory but for what it gives is taken here.
@@ -111,7 +110,7 @@ impl<H: HeldFile, R: Reader<Held = H> + Drop> TableCursor<H, R> {
     ) -> Result<Self, AllocError>
         ensures left { (ess : List (List Entry)) → AreOf H.bytes tables.items ess
             → IfOk result (λ c. ⟦<TableCursor<H, R> as Cursor>⟧.left c ≡ Some (along way (within span (joined ess)))) }
-        ensures may_fail { IfOk result (λ c. (fault : TableFault)
+        ensures may_fail { IfOk result (λ c. (fault : ReadFault)
             → ⟦<TableCursor<H, R> as Cursor>⟧.may_fail c fault → MayFailOn H.bytes tables.items fault) }
     {
         let none = Stretch { first: 0, end: 0 };
@@ -154,7 +153,7 @@ impl<H: HeldFile, R: Reader<Held = H> + Drop> TableCursor<H, R> {
     }
 
     // Reads the next block, and says whether there was one.
-    fn read(&mut self, reader: &mut R) -> Result<bool, TableFault>
+    fn read(&mut self, reader: &mut R) -> Result<bool, ReadFault>
         requires { self.old.entries.end ≤ self.old.entries.first }
         ensures there { IfOk result (λ more. IsTrue more → ReadsNext H.bytes self.old self.new) }
         ensures none { IfOk result (λ more. IsFalse more
@@ -180,7 +179,7 @@ impl<H: HeldFile, R: Reader<Held = H> + Drop> TableCursor<H, R> {
     }
 
     // Reads the block at an index of the table that it is in, which is the next on its way, before these others.
-    fn load(&mut self, reader: &mut R, at: usize, rest: Stretch) -> Result<(), TableFault>
+    fn load(&mut self, reader: &mut R, at: usize, rest: Stretch) -> Result<(), ReadFault>
         requires next { IsNextOn self.old.way self.old.blocks at rest }
         requires none { self.old.entries.end ≤ self.old.entries.first }
         ensures read { OnOk result (ReadsNext H.bytes self.old self.new) }

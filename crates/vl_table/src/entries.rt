@@ -3,13 +3,13 @@
 ghost use Rattle.std.specs.Prelude.{◌≡◌, ◌<◌, IfSome, IsSomeAnd, List, OnSome, Some, length, slice_get};
 ghost use Rattle.std.specs.List.{prefix_len};
 ghost use Rattle.vl_model.specs.declared.entry.Entry.{Entry};
-ghost use Rattle.vl_run.specs.Lookups.{first_failing, is_ahead};
-ghost use Rattle.vl_block.specs.Entries.{IsEntry, entry_of};
-ghost use Rattle.vl_block.specs.Founds.{IsShort};
-ghost use Rattle.vl_block.specs.Starts.{StartsAt};
+ghost use Rattle.vl_model.specs.Lookups.{first_failing, is_ahead};
+ghost use Rattle.vl_table.specs.body.Entries.{IsEntry, entry_of};
+ghost use Rattle.vl_table.specs.body.Founds.{IsShort};
+ghost use Rattle.vl_table.specs.body.Starts.{StartsAt};
 ghost use Rattle.vl_table.specs.Scans.{IsScan, Lists};
 
-use vl_block::{EntryRef, Found, entry_at};
+use crate::body::{EntryRef, Found, entry_at};
 use vl_model::{Place, place_order};
 
 /// The entries of a block, and where each begins.

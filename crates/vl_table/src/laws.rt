@@ -1,12 +1,12 @@
 // Laws of the definitions: each is the contract of a function that does nothing.
 ghost use Rattle.std.specs.Prelude.{◌≡◌, ◌≤◌, ◌∷◌, [], List, ℕ, ◌<◌, ◌^◌, ◌++◌, length};
 ghost use Rattle.vl_model.specs.declared.entry.Entry.{Entry};
-ghost use Rattle.vl_block.specs.Blocks.{SpellsBlock};
-ghost use Rattle.vl_block.specs.Footer.{Foot, SpellsFooter};
-ghost use Rattle.vl_block.specs.Index.{SpellsIndex};
-ghost use Rattle.vl_block.specs.declared.index.BlockPlace.{BlockPlace};
-ghost use Rattle.vl_block.specs.Cutting.{blocks, points_of, table_length, with_point};
-ghost use Rattle.vl_block.specs.Bytes.{AreTabled, block_places, foot, table_bytes, IsTable};
+ghost use Rattle.vl_table.specs.body.Blocks.{SpellsBlock};
+ghost use Rattle.vl_table.specs.body.Footer.{Foot, SpellsFooter};
+ghost use Rattle.vl_table.specs.body.Index.{SpellsIndex};
+ghost use Rattle.vl_table.specs.declared.body.index.BlockPlace.{BlockPlace};
+ghost use Rattle.vl_model.specs.Cutting.{blocks, points_of, table_length, with_point};
+ghost use Rattle.vl_table.specs.body.Bytes.{AreTabled, block_places, foot, table_bytes, IsTable};
 ghost use Rattle.vl_table.specs.Seeks.{IsBadBlock};
 ghost use Rattle.vl_table.specs.declared.table.Table.{Table};
 ghost use Rattle.vl_model.specs.Formats.{table_format};

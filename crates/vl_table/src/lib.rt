@@ -1,5 +1,7 @@
-//! Tables: entries in order, in a file that never changes, opened, searched, and gone over both ways. docs/FORMATS.md has
-//! their bytes.
+//! Tables: entries in order, in a file that never changes, written, opened, searched, and gone over both ways.
+//! docs/FORMATS.md has their bytes.
+//!
+//! `TableWriter` gives a table's bytes piece by piece, from entries in their order.
 //!
 //! A look-up asks the table's range and its filter first, and reads nothing where one of them says no. Else it reads blocks
 //! through a `BlockReader`, which keeps some of them and has tested each, and halves in them. It wants no memory.
@@ -11,6 +13,7 @@
 mod beginning;
 mod block;
 mod block_reader;
+mod body;
 mod cursor;
 mod entries;
 mod fault;
@@ -24,12 +27,17 @@ mod span_blocks;
 mod stretch;
 mod table;
 mod tested;
+mod writer;
 
 pub use block_reader::{BlockReader, KEPT_BLOCKS};
+pub use body::{
+    BlockPlace, BodyRef, EntryRef, Footer, FooterHead, Found, FoundBody, FramePlace, ShortValue,
+    TableShape, ValueRef,
+};
 pub use cursor::TableCursor;
-pub use fault::TableFault;
 pub use laws::{
     a_worked_table, bodies_are_read_in_one_way, tables_are_read_in_one_way,
     tables_have_their_length, true_tables_are_read, true_tables_have_no_bad_block,
 };
 pub use table::Table;
+pub use writer::{AddFail, TableWriter, Tail, tables_have_room};

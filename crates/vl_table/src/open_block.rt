@@ -2,13 +2,12 @@
 //! is to drive out another's block at each entry.
 
 use crate::block::read_block;
-use crate::fault::TableFault;
+use crate::body::{EntryRef, MAX_BLOCK_ENTRIES, entry_at};
 use crate::slot::{BlockId, MAX_FRAME_BYTES};
 use crate::tested::Tested;
 use std::alloc::{AllocError, Global};
 use std::marker::Model;
-use vl_block::{EntryRef, MAX_BLOCK_ENTRIES, entry_at};
-use vl_disk::{HeldFile, Reader};
+use vl_disk::{HeldFile, ReadFault, Reader};
 
 // How many bytes stand before a block's entries: kind and length of the frame, and their count.
 const FRONT_BYTES: usize = 9;
@@ -39,7 +38,7 @@ impl Model for OpenBlock {
 impl OpenBlock {
     ghost use Rattle.std.specs.Prelude.{◌≡◌, ◌≤◌, ◌<◌, [], IfOk, List, OnErr, OnOk, get_or, length};
     ghost use Rattle.vl_model.specs.declared.entry.Entry.{Entry};
-    ghost use Rattle.vl_block.specs.Entries.{entry_of};
+    ghost use Rattle.vl_table.specs.body.Entries.{entry_of};
     ghost use Rattle.vl_table.specs.Answers.{Answers, NeedsNoMemory};
     ghost use Rattle.vl_table.specs.Kept.{IsMissing, StandsBlock};
 
@@ -82,7 +81,7 @@ impl OpenBlock {
         tested: &Tested<H>,
         at: usize,
         id: BlockId,
-    ) -> Result<(), TableFault>
+    ) -> Result<(), ReadFault>
         ensures answers { Answers (R.faults reader.old) (R.faults reader.new) id.number (H.bytes held.now)
             (λ bytes done. StandsBlock id.format id.number bytes id.place id.length self.new)
             (IsMissing id) result }

@@ -5,20 +5,20 @@
 //! the filter, which stand side by side before it.
 
 ghost use Rattle.std.specs.Prelude.{◌≡◌, ◌+◌, ◌≤◌, List, length, IfOk, IfNone, IfSome};
-ghost use Rattle.vl_block.specs.Footer.{Foot, foot_of};
-ghost use Rattle.vl_block.specs.declared.index.BlockPlace.{BlockPlace};
+ghost use Rattle.vl_table.specs.body.Footer.{Foot, foot_of};
+ghost use Rattle.vl_table.specs.declared.body.index.BlockPlace.{BlockPlace};
 ghost use Rattle.vl_table.specs.Answers.{Answers};
 ghost use Rattle.vl_table.specs.Opening.{FilterAt, FooterIn, IsDamaged, IsRead, StandsFooter, StandsIndex, said_by};
 ghost use Rattle.vl_table.specs.ReadAhead.{AheadOf, IsAhead};
 ghost use Rattle.vl_table.specs.OpeningParts.{HasParts, LedTo, NoFilter, NoParts, NotLedTo};
 
 use crate::beginning::{read_begin, read_place};
-use crate::fault::{TableFault, damaged};
+use crate::body::{BlockPlace, Footer, FramePlace, TableShape, read_footer, read_index};
+use crate::fault::damaged;
 use crate::part::{body_of, is_same, read_part};
 use crate::reading::{Ahead, read_ahead, read_bytes};
 use std::alloc::{AllocError, Global};
-use vl_block::{BlockPlace, Footer, FramePlace, TableShape, read_footer, read_index};
-use vl_disk::{HeldFile, Reader};
+use vl_disk::{HeldFile, ReadFault, Reader};
 use vl_filter::read;
 use vl_frame::{FileKind, FrameKind, read_frame};
 
@@ -31,7 +31,7 @@ pub fn read_shape<H: HeldFile, R: Reader<Held = H>>(
     reader: &mut R,
     held: &H,
     number: u32,
-) -> Result<TableShape, TableFault>
+) -> Result<TableShape, ReadFault>
     ensures answers { Answers (R.faults reader.old) (R.faults reader.new) number (H.bytes held.now)
         (λ bytes shape. IsRead number bytes (said_by shape)) (IsDamaged number) result }
     ensures number { IfOk result (λ shape. shape.number ≡ number) }
@@ -56,7 +56,7 @@ fn read_end<H: HeldFile, R: Reader<Held = H>>(
     reader: &mut R,
     held: &H,
     number: u32,
-) -> Result<Ahead, TableFault>
+) -> Result<Ahead, ReadFault>
     ensures { Answers (R.faults reader.old) (R.faults reader.new) number (H.bytes held.now) AheadOf (λ bytes damage. ⊥) result }
 {
     let len = held.len();
@@ -82,7 +82,7 @@ pub fn read_parts<H: HeldFile, R: Reader<Held = H>>(
     format: u32,
     number: u32,
     place: u64,
-) -> Result<Parts, TableFault>
+) -> Result<Parts, ReadFault>
     requires inside { place + 21 ≤ H.size held.now }
     requires ahead { IsAhead (H.bytes held.now) ahead.now }
     ensures { Answers (R.faults reader.old) (R.faults reader.new) number (H.bytes held.now)
@@ -105,7 +105,7 @@ fn read_led_to<H: HeldFile, R: Reader<Held = H>>(
     ahead: &Ahead,
     number: u32,
     footer: &Footer,
-) -> Result<(Vec<BlockPlace>, Vec<u8>), TableFault>
+) -> Result<(Vec<BlockPlace>, Vec<u8>), ReadFault>
     requires { IsAhead (H.bytes held.now) ahead.now }
     ensures { Answers (R.faults reader.old) (R.faults reader.new) number (H.bytes held.now)
         (λ bytes parts. LedTo number (foot_of footer.now) bytes parts.0.items parts.1.items)
@@ -125,7 +125,7 @@ fn read_both<H: HeldFile, R: Reader<Held = H>>(
     ahead: &Ahead,
     number: u32,
     footer: &Footer,
-) -> Result<Option<Ahead>, TableFault>
+) -> Result<Option<Ahead>, ReadFault>
     ensures { Answers (R.faults reader.old) (R.faults reader.new) number (H.bytes held.now)
         (λ bytes both. IfSome both (AheadOf bytes)) (λ bytes damage. ⊥) result }
 {
@@ -168,7 +168,7 @@ fn read_named<H: HeldFile, R: Reader<Held = H>>(
     ahead: &Ahead,
     number: u32,
     footer: &Footer,
-) -> Result<(Vec<BlockPlace>, Vec<u8>), TableFault>
+) -> Result<(Vec<BlockPlace>, Vec<u8>), ReadFault>
     requires { IsAhead (H.bytes held.now) ahead.now }
     ensures { Answers (R.faults reader.old) (R.faults reader.new) number (H.bytes held.now)
         (λ bytes parts. LedTo number (foot_of footer.now) bytes parts.0.items parts.1.items)
@@ -198,7 +198,7 @@ fn read_filter<H: HeldFile, R: Reader<Held = H>>(
     ahead: &Ahead,
     number: u32,
     at: &FramePlace,
-) -> Result<Vec<u8>, TableFault>
+) -> Result<Vec<u8>, ReadFault>
     requires { IsAhead (H.bytes held.now) ahead.now }
     ensures { Answers (R.faults reader.old) (R.faults reader.new) number (H.bytes held.now)
         (λ bytes bits. FilterAt number bytes at.now.place at.now.length bits.items)
@@ -234,7 +234,7 @@ fn read_foot<H: HeldFile, R: Reader<Held = H>>(
     format: u32,
     number: u32,
     place: u64,
-) -> Result<Footer, TableFault>
+) -> Result<Footer, ReadFault>
     requires inside { place + 21 ≤ H.size held.now }
     requires ahead { IsAhead (H.bytes held.now) ahead.now }
     ensures { Answers (R.faults reader.old) (R.faults reader.new) number (H.bytes held.now)
@@ -284,7 +284,7 @@ fn read_blocks<H: HeldFile, R: Reader<Held = H>>(
     number: u32,
     place: u64,
     size: u32,
-) -> Result<Vec<BlockPlace>, TableFault>
+) -> Result<Vec<BlockPlace>, ReadFault>
     requires { IsAhead (H.bytes held.now) ahead.now }
     ensures { Answers (R.faults reader.old) (R.faults reader.new) number (H.bytes held.now)
         (λ bytes blocks. StandsIndex number bytes place size blocks.items)

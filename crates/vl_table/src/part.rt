@@ -8,9 +8,9 @@ ghost use Rattle.vl_table.specs.Answers.{Answers, NeedsNoMemory};
 ghost use Rattle.vl_table.specs.Begun.{FrameAt};
 ghost use Rattle.vl_table.specs.ReadAhead.{IsAhead};
 
-use crate::fault::{TableFault, damaged};
+use crate::fault::damaged;
 use crate::reading::{Ahead, fill, fill_from};
-use vl_disk::{HeldFile, Reader};
+use vl_disk::{HeldFile, ReadFault, Reader};
 use vl_frame::{FRAME_BYTES, FileKind, FrameKind, read_frame};
 
 /// Reads the frame of this kind and of so many bytes that stands at a place of the table with this number.
@@ -23,7 +23,7 @@ pub fn read_part<H: HeldFile, R: Reader<Held = H>>(
     size: u32,
     kind: FrameKind,
     frame: &mut Vec<u8>,
-) -> Result<(), TableFault>
+) -> Result<(), ReadFault>
     requires { IsAhead (H.bytes held.now) ahead.now }
     ensures answers { Answers (R.faults reader.old) (R.faults reader.new) number (H.bytes held.now)
         (λ bytes done. (body : List ℕ) × FrameAt number bytes place size kind body
@@ -50,7 +50,7 @@ pub fn read_into<H: HeldFile, R: Reader<Held = H>>(
     place: u64,
     kind: FrameKind,
     frame: &mut [u8],
-) -> Result<(), TableFault>
+) -> Result<(), ReadFault>
     requires { place + length frame.old ≤ H.size held.now }
     ensures answers { Answers (R.faults reader.old) (R.faults reader.new) number (H.bytes held.now)
         (λ bytes done. (body : List ℕ) × FrameAt number bytes place (length frame.old) kind body

@@ -5,9 +5,8 @@ ghost use Rattle.vl_disk.specs.DiskState.{bytes_at};
 ghost use Rattle.vl_table.specs.Answers.{Answers, NeedsNoMemory};
 ghost use Rattle.vl_table.specs.ReadAhead.{AheadOf, IsAhead};
 
-use crate::fault::TableFault;
 use std::alloc::Global;
-use vl_disk::{HeldFile, Name, Reader};
+use vl_disk::{HeldFile, Name, ReadFault, Reader};
 
 /// Bytes of a table from a place on, which were read before each of them is asked for.
 #[derive(Drop)]
@@ -54,7 +53,7 @@ pub fn read_ahead<H: HeldFile, R: Reader<Held = H>>(
     number: u32,
     place: u64,
     count: u64,
-) -> Result<Ahead, TableFault>
+) -> Result<Ahead, ReadFault>
     requires { place + count ≤ H.size held.now }
     ensures { Answers (R.faults reader.old) (R.faults reader.new) number (H.bytes held.now) AheadOf (λ bytes damage. ⊥) result }
 {
@@ -79,7 +78,7 @@ pub fn read_bytes<H: HeldFile, R: Reader<Held = H>>(
     number: u32,
     place: u64,
     count: u64,
-) -> Result<Vec<u8>, TableFault>
+) -> Result<Vec<u8>, ReadFault>
     requires inside { place + count ≤ H.size held.now }
     requires ahead { IsAhead (H.bytes held.now) ahead.now }
     ensures { Answers (R.faults reader.old) (R.faults reader.new) number (H.bytes held.now)
@@ -100,7 +99,7 @@ pub fn fill_from<H: HeldFile, R: Reader<Held = H>>(
     number: u32,
     place: u64,
     out: &mut [u8],
-) -> Result<(), TableFault>
+) -> Result<(), ReadFault>
     requires inside { place + length out.old ≤ H.size held.now }
     requires ahead { IsAhead (H.bytes held.now) ahead.now }
     ensures answers { Answers (R.faults reader.old) (R.faults reader.new) number (H.bytes held.now)
@@ -119,7 +118,7 @@ pub fn fill<H: HeldFile, R: Reader<Held = H>>(
     number: u32,
     place: u64,
     out: &mut [u8],
-) -> Result<(), TableFault>
+) -> Result<(), ReadFault>
     requires { place + length out.old ≤ H.size held.now }
     ensures answers { Answers (R.faults reader.old) (R.faults reader.new) number (H.bytes held.now)
         (λ bytes done. out.new ≡ bytes_at place (length out.old) bytes) (λ bytes damage. ⊥) result }
@@ -127,7 +126,7 @@ pub fn fill<H: HeldFile, R: Reader<Held = H>>(
 {
     match reader.read(held, place, out) {
         Ok(()) => Ok(()),
-        Err(_) => Err(TableFault::Disk {
+        Err(_) => Err(ReadFault::Disk {
             name: Name::Table(number),
         }),
     }

@@ -3,13 +3,12 @@
 ghost use Rattle.std.specs.Prelude.{◌≡◌, ◌≤◌, vec_capacity, vec_len};
 
 use crate::block::read_block;
+use crate::body::{BlockPlace, MAX_BLOCK_ENTRIES, MAX_BODY_BYTES, TableShape};
 use crate::entries::Entries;
-use crate::fault::TableFault;
 use crate::part::body_of;
 use crate::tested::Tested;
 use std::alloc::{AllocError, Global};
-use vl_block::{BlockPlace, MAX_BLOCK_ENTRIES, MAX_BODY_BYTES, TableShape};
-use vl_disk::{HeldFile, Reader};
+use vl_disk::{HeldFile, ReadFault, Reader};
 use vl_frame::{FRAME_BYTES, take_u32};
 
 /// The longest frame of a block.
@@ -93,7 +92,7 @@ impl Slot {
         tested: &Tested<H>,
         at: usize,
         id: BlockId,
-    ) -> Result<(), TableFault>
+    ) -> Result<(), ReadFault>
         ensures answers { Answers (R.faults reader.old) (R.faults reader.new) id.number (H.bytes held.now)
             (λ bytes done. (es : List Entry) × HasBlock self.new id bytes es)
             (IsMissing id) result }

@@ -5,8 +5,8 @@ ghost use Rattle.std.specs.List.{prefix_len};
 ghost use Rattle.vl_model.specs.Reads as reads;
 ghost use Rattle.vl_table.specs.SpanBlocks as spans;
 
+use crate::body::{BlockPlace, TableShape};
 use crate::stretch::Stretch;
-use vl_block::{BlockPlace, TableShape};
 use vl_model::{Span, key_order};
 
 /// The blocks of a table that may have keys of an interval: none where it begins above it.

@@ -5,12 +5,12 @@ ghost use Rattle.std.specs.Option.{option_map};
 ghost use Rattle.vl_model.specs.Formats.{table_format};
 ghost use Rattle.vl_model.specs.Winners.{exact, winner};
 ghost use Rattle.vl_model.specs.declared.entry.Entry.{Entry};
-ghost use Rattle.vl_run.specs.Lookups.{IsParted, first_over, if_exact, if_of_key, is_below};
-ghost use Rattle.vl_block.specs.Bytes.{IsTable, table_bytes};
-ghost use Rattle.vl_block.specs.Cutting.{blocks};
-ghost use Rattle.vl_block.specs.Founds.{found_of};
-ghost use Rattle.vl_block.specs.Shapes.{IsShapeOf};
-ghost use Rattle.vl_block.specs.declared.index.BlockPlace.{BlockPlace};
+ghost use Rattle.vl_model.specs.Lookups.{IsParted, first_over, if_exact, if_of_key, is_below};
+ghost use Rattle.vl_table.specs.body.Bytes.{IsTable, table_bytes};
+ghost use Rattle.vl_model.specs.Cutting.{blocks};
+ghost use Rattle.vl_table.specs.body.Founds.{found_of};
+ghost use Rattle.vl_table.specs.body.Shapes.{IsShapeOf};
+ghost use Rattle.vl_table.specs.declared.body.index.BlockPlace.{BlockPlace};
 ghost use Rattle.vl_disk.specs.Faults.{HasCause};
 ghost use Rattle.vl_table.specs.Answers.{Answers, Failed, NeedsNoMemory};
 ghost use Rattle.vl_table.specs.Kept.{Files};
@@ -21,16 +21,15 @@ ghost use Rattle.vl_table.specs.Opening.{IsDamaged, IsRead, said_by};
 ghost use Rattle.vl_table.specs.Seeks.{IsBadBlock};
 ghost use Rattle.vl_table.specs.Tables.{AreSame, IsOf, OpensAs, number_of, shape_of};
 
-use crate::TableFault;
 use crate::block_reader::BlockReader;
+use crate::body::{BlockPlace, Found, TableShape};
 use crate::entries::Scan;
 use crate::opening::read_shape;
 use crate::span_blocks::{is_from, is_up_to};
 use crate::tested::Tested;
 use std::alloc::{AllocError, Global};
 use std::sync::Arc;
-use vl_block::{BlockPlace, Found, TableShape};
-use vl_disk::{HeldFile, Reader};
+use vl_disk::{HeldFile, ReadFault, Reader};
 use vl_filter::{LastKey, passes};
 use vl_model::{Span, key_order};
 
@@ -65,7 +64,7 @@ impl<H: HeldFile> Table<H> {
         reader: &mut R,
         held: H,
         number: u32,
-    ) -> Result<Self, TableFault>
+    ) -> Result<Self, ReadFault>
         ensures answers { Answers (R.faults reader.old) (R.faults reader.new) number (H.bytes held)
             (λ bytes table. IsRead number bytes (said_by (shape_of table)))
             (IsDamaged number) result }
@@ -79,7 +78,7 @@ impl<H: HeldFile> Table<H> {
         let shape = read_shape(alloc, reader, &held, number)?;
         match Arc::new(alloc, shape) {
             Ok(shape) => Ok(Table::of(held, shape)),
-            Err(_) => Err(TableFault::NoMemory),
+            Err(_) => Err(ReadFault::NoMemory),
         }
     }
 
@@ -143,7 +142,7 @@ impl<H: HeldFile> Table<H> {
         reader: &mut BlockReader<R>,
         key: &[u8],
         number: u64,
-    ) -> Result<Option<Found>, TableFault>
+    ) -> Result<Option<Found>, ReadFault>
         ensures kept { (files : Files) → ReadsOf H.bytes files reader.old (self.now ∷ []) → AreKept files reader.new }
         ensures answers { (files : Files) → ReadsOf H.bytes files reader.old (self.now ∷ [])
             → Answers (R.faults reader.old.reader) (R.faults reader.new.reader) (number_of self.now) (H.bytes self.now.held)
@@ -173,7 +172,7 @@ impl<H: HeldFile> Table<H> {
         reader: &mut BlockReader<R>,
         key: &[u8],
         version: u64,
-    ) -> Result<Option<Found>, TableFault>
+    ) -> Result<Option<Found>, ReadFault>
         ensures kept { (files : Files) → ReadsOf H.bytes files reader.old (self.now ∷ []) → AreKept files reader.new }
         ensures answers { (files : Files) → ReadsOf H.bytes files reader.old (self.now ∷ [])
             → Answers (R.faults reader.old.reader) (R.faults reader.new.reader) (number_of self.now) (H.bytes self.now.held)
@@ -200,7 +199,7 @@ impl<H: HeldFile> Table<H> {
         reader: &mut BlockReader<R>,
         key: &[u8],
         version: u64,
-    ) -> Result<Option<Found>, TableFault>
+    ) -> Result<Option<Found>, ReadFault>
         ensures kept { (files : Files) → ReadsOf H.bytes files reader.old (self.now ∷ []) → AreKept files reader.new }
         ensures answers { (files : Files) → ReadsOf H.bytes files reader.old (self.now ∷ [])
             → Answers (R.faults reader.old.reader) (R.faults reader.new.reader) (number_of self.now) (H.bytes self.now.held)

@@ -6,7 +6,7 @@ use Rattle.std.proofs.Common.{inl, inr}
 use Rattle.std.specs.FinMap.{entries, entries_sorted, find, get-entries}
 use Rattle.std.specs.List.{AllByRecursion}
 use Rattle.vl_disk.specs.declared.name.Name.{Name}
-use Rattle.vl_merge.specs.Merging.{IsAlong}
+use Rattle.vl_model.specs.Merging.{IsAlong}
 use Rattle.vl_merge.specs.declared.hides.Hides.TheVariants as hiding
 use Rattle.vl_merge.specs.Visible.{shown}
 use Rattle.vl_model.specs.Entries.{is_gone}
@@ -23,8 +23,8 @@ use Rattle.vl_version.specs.Near.{AreNear, IsNear, IsNearEntry}
 use Rattle.vl_version.specs.Own.{own_entries, own_entry}
 use Rattle.vl_version.specs.Rows.{AreRowsOf, IsKept, OneAstray}
 use Rattle.vl_version.specs.Scans.{AreScanned, MayHave, SomeAstray}
-use Rattle.vl_version.specs.declared.fault.ReadFault.{ReadFault}
-use Rattle.vl_version.specs.declared.fault.ReadFault.TheVariants.{NoMemory, Disk, Damaged}
+use Rattle.vl_disk.specs.declared.read_fault.ReadFault.{ReadFault}
+use Rattle.vl_disk.specs.declared.read_fault.ReadFault.TheVariants.{NoMemory, Disk, Damaged}
 use Rattle.vl_version.specs.Sources.{HasEntries, LeadsIn, stored_in}
 use Rattle.vl_version.specs.declared.version.Version.{Version}
 use Rattle.vl_version.specs.declared.wanted.Wanted.{Wanted}

@@ -11,7 +11,7 @@ use Rattle.std.specs.declared.cmp.Ordering.TheVariants.{Less, Equal, Greater}
 use Rattle.vl_model.specs.Keys.{key_cmp}
 use Rattle.vl_model.specs.Reads.{is_within}
 use Rattle.vl_model.specs.declared.change.Change.{Change}
-use Rattle.vl_run.specs.Lookups.{IsParted}
+use Rattle.vl_model.specs.Lookups.{IsParted}
 use Rattle.vl_version.specs.Own.{is_key_below}
 
 one_more : (n : ℕ) → 1 + n ≡ suc n

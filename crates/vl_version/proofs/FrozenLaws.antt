@@ -6,8 +6,8 @@ use Rattle.vl_memtable.specs.declared.frozen_log.FrozenLog.{FrozenLog}
 use Rattle.vl_model.specs.Winners.{exact, newest_of, winner}
 use Rattle.vl_model.specs.declared.entry.Entry.{Entry}
 use Rattle.vl_model.specs.laws.WinnerLaws.{winner-append}
-use Rattle.vl_run.specs.laws.Exact.{exact-append}
-use Rattle.vl_run.specs.Lookups.{or_else}
+use Rattle.vl_model.specs.laws.Exact.{exact-append}
+use Rattle.vl_model.specs.Lookups.{or_else}
 use Rattle.vl_version.specs.Sources.{held_entries}
 use Rattle.vl_version.proofs.looking.Parts.{split_at}
 

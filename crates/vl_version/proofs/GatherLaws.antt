@@ -8,7 +8,7 @@ use Rattle.std.proofs.lemmas.List.{reverse-append}
 use Rattle.std.specs.List.{AllByRecursion, filter, flat_map}
 use Rattle.std.proofs.lemmas.Grind.{flat_map-append}
 use Rattle.vl_memtable.specs.Contents.{Contents, GiveWithin, all_of}
-use Rattle.vl_merge.specs.Merging.{IsAlong, IsFirst}
+use Rattle.vl_model.specs.Merging.{IsAlong, IsFirst}
 use Rattle.vl_model.specs.Entries.{entry_cmp}
 use Rattle.vl_model.specs.Keys.{key_cmp}
 use Rattle.vl_model.specs.Order.{way_cmp}
@@ -19,8 +19,8 @@ use Rattle.vl_model.specs.declared.entry.Entry.{Entry}
 use Rattle.vl_model.specs.declared.span.Span.{Span}
 use Rattle.vl_model.specs.declared.way.Way.{Way}
 use Rattle.vl_model.specs.declared.way.Way.TheVariants.{Up, Down}
-use Rattle.vl_run.specs.Order.{IsInOrder, along, within}
-use Rattle.vl_run.specs.laws.OrderLaws.{IsBefore, IsRising, rising}
+use Rattle.vl_model.specs.EntryOrder.{IsInOrder, along, within}
+use Rattle.vl_model.specs.laws.OrderLaws.{IsBefore, IsRising, rising}
 use Rattle.vl_version.specs.Gathered.{GiveWinners, span_of}
 use Rattle.vl_version.specs.Own.{own_entries, own_entry}
 use Rattle.vl_version.proofs.CutLaws.{Write, true_T}

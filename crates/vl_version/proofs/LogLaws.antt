@@ -6,17 +6,15 @@ use Rattle.std.specs.List.{AllByRecursion}
 use Rattle.vl_disk.specs.declared.name.Name.TheVariants.{Log as log_name}
 use Rattle.vl_model.specs.Keys.{Stored}
 use Rattle.vl_model.specs.declared.pointer.Pointer.{Pointer}
-use Rattle.vl_run.specs.Lookups.{IsParted, first_failing}
+use Rattle.vl_model.specs.Lookups.{IsParted, first_failing}
 use Rattle.vl_seglog.specs.Answers.{Answers, IsAnswer as log_answer, IsNamed}
 use Rattle.vl_seglog.specs.Stored.{stored_at}
-use Rattle.vl_seglog.specs.declared.fault.LogFault.{LogFault}
-use Rattle.vl_seglog.specs.declared.fault.LogFault.TheVariants as log
+use Rattle.vl_disk.specs.declared.read_fault.ReadFault.{ReadFault}
+use Rattle.vl_disk.specs.declared.read_fault.ReadFault.TheVariants as log
 use Rattle.vl_seglog.specs.declared.sealed.SealedLog.{SealedLog}
 use Rattle.vl_version.specs.Answers.{IsAnswer}
-use Rattle.vl_version.specs.Faults.{as_read_fault}
 use Rattle.vl_version.specs.Sources.{AreRising, AreTold, log_in, stored_in}
 use Rattle.vl_version.specs.Values.{IsNowhere}
-use Rattle.vl_version.specs.declared.fault.ReadFault.{ReadFault}
 
 module _ {H : Type 0} where
   -- ---- halving
@@ -114,9 +112,9 @@ module _ where
   told_bytes (Some bytes) some = (bytes, refl)
 
 -- what a log answers, with its fault as that of a read
-abbrev pub as_answer : {T : Type 0} → Result T LogFault → Result T ReadFault
+abbrev pub as_answer : {T : Type 0} → Result T ReadFault → Result T ReadFault
 as_answer (Ok x) = Ok x
-as_answer (Err fault) = Err (as_read_fault fault)
+as_answer (Err fault) = Err fault
 
 module _ {H : Type 0} (bytes_of : H → Option (List ℕ)) (logs : List (SealedLog H)) (pointer : Pointer) (key : List ℕ) where
   -- what stands at the pointer in a log whose bytes are told
@@ -135,7 +133,7 @@ module _ {H : Type 0} (bytes_of : H → Option (List ℕ)) (logs : List (SealedL
         ∙ ap (λ o. option_and_then (λ bytes. stored_at found.format bytes pointer key) o) here)
 
     module _ {T : Type 0} (good : Option Stored → T → Type 0) where
-      by_case : (bytes : List ℕ) → bytes_of found.held ≡ Some bytes → found.number ≡ pointer.segment → (result : Result T LogFault)
+      by_case : (bytes : List ℕ) → bytes_of found.held ≡ Some bytes → found.number ≡ pointer.segment → (result : Result T ReadFault)
           → IsNamed found.number result
           → log_answer (good (stored_at found.format bytes pointer key))
           (λ place. (stored_at found.format bytes pointer key ≡ None) × (place ≡ pointer.place)) result
@@ -148,7 +146,7 @@ module _ {H : Type 0} (bytes_of : H → Option (List ℕ)) (logs : List (SealedL
           (sym (stored_in-found bytes here) ∙ answer.0, named ∙ ap log_name same, answer.1)
 
       -- what reading the log answers is what is answered of all logs
-      pub answers_in : (before now : ℕ) (result : Result T LogFault) → found.number ≡ pointer.segment
+      pub answers_in : (before now : ℕ) (result : Result T ReadFault) → found.number ≡ pointer.segment
           → Answers before now found.number (bytes_of found.held) (λ bytes x. good (stored_at found.format bytes pointer key) x)
           (λ bytes place. (stored_at found.format bytes pointer key ≡ None) × (place ≡ pointer.place)) result
           → IsAnswer (good (stored_in bytes_of logs pointer key))

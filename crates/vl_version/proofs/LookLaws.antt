@@ -2,9 +2,9 @@
 use Rattle.std.proofs.Common.{◌≡◌, ℕ, List, Option, ap, sym, subst, ◌∙◌}
 use Rattle.std.specs.Prelude.{Result, Ok, Err, option_and_then}
 use Rattle.std.specs.Option.{option_map}
-use Rattle.vl_block.specs.Cutting.{joined}
-use Rattle.vl_block.specs.Founds.{found_of}
-use Rattle.vl_block.specs.declared.found.Found.{Found}
+use Rattle.vl_model.specs.Cutting.{joined}
+use Rattle.vl_table.specs.body.Founds.{found_of}
+use Rattle.vl_table.specs.declared.body.found.Found.{Found}
 use Rattle.vl_disk.specs.declared.name.Name.{Name}
 use Rattle.vl_model.specs.Keys.{Stored}
 use Rattle.vl_model.specs.Winners.{Logs, newest_of, resolved_at, winner}
@@ -12,13 +12,11 @@ use Rattle.vl_model.specs.declared.entry.Entry.{Entry}
 use Rattle.vl_seglog.specs.Sealed.{IsHere, IsSmall}
 use Rattle.vl_seglog.specs.declared.sealed.SealedLog.{SealedLog}
 use Rattle.vl_table.specs.Answers.{IsAnswer as table_answer}
-use Rattle.vl_table.specs.declared.fault.TableFault.{TableFault}
-use Rattle.vl_table.specs.declared.fault.TableFault.TheVariants as table
+use Rattle.vl_disk.specs.declared.read_fault.ReadFault.{ReadFault}
+use Rattle.vl_disk.specs.declared.read_fault.ReadFault.TheVariants as table
 use Rattle.vl_version.specs.Answers.{Fills, Gives, IsAnswer, IsFound, value_of}
-use Rattle.vl_version.specs.Faults.{table_read_fault}
 use Rattle.vl_version.specs.Sources.{AreTold, HasEntries, stored_in, tables_in}
-use Rattle.vl_version.specs.declared.fault.ReadFault.{ReadFault}
-use Rattle.vl_version.specs.declared.fault.ReadFault.TheVariants.{NoMemory, Disk, Damaged}
+use Rattle.vl_disk.specs.declared.read_fault.ReadFault.TheVariants.{NoMemory, Disk, Damaged}
 use Rattle.vl_version.specs.declared.found.Found as filled
 use Rattle.vl_version.specs.declared.found.Found.TheVariants as found
 use Rattle.vl_version.specs.declared.levels.look.Look.TheVariants.{UpTo}
@@ -70,8 +68,8 @@ module _ {H : Type 0} (bytes_of : H → Option (List ℕ)) (version : Version H)
         (subst (λ (v : Option Entry). Fills (stored_in bytes_of held) v old new result) wins (answers told))
 
   -- a fault of true tables isn't damage
-  pub fault_answers : {T : Type 0} (good : T → Type 0) (bad : Name → ℕ → Type 0) (why : TableFault) (best : Option Entry)
-      (before now : ℕ) (result : Result T ReadFault) → result ≡ Err (table_read_fault why)
+  pub fault_answers : {T : Type 0} (good : T → Type 0) (bad : Name → ℕ → Type 0) (why : ReadFault) (best : Option Entry)
+      (before now : ℕ) (result : Result T ReadFault) → result ≡ Err why
       → LooksOn bytes_of (tables_in version) (AreInOrder version.behind.levels) (UpTo number) key best before now (Err why)
       → IsAnswer good bad result
   fault_answers {T} good bad why best before now result is on =
@@ -79,8 +77,8 @@ module _ {H : Type 0} (bytes_of : H → Option (List ℕ)) (version : Version H)
       (by (λ found. option_map (found_of key) found ≡ newest_of best (winner (joined has.tabled) key number)) why
       (on.answer has.in_order has.tabled has.tables))
     where
-      by : (found : Option Found → Type 0) (e : TableFault) → table_answer found (λ place. ⊥) (Err e)
-          → IsAnswer {T = T} good bad (Err (table_read_fault e))
+      by : (found : Option Found → Type 0) (e : ReadFault) → table_answer found (λ place. ⊥) (Err e)
+          → IsAnswer {T = T} good bad (Err e)
       by found table.NoMemory sound = tt
       by found (table.Disk name) sound = tt
       by found (table.Damaged name place) sound = absurd sound

@@ -2,23 +2,21 @@
 use Rattle.std.proofs.Common.{◌≡◌, ℕ, List, [], ◌∷◌, ◌++◌, Option, sym, subst}
 use Rattle.std.specs.Prelude.{Result, Ok, Err}
 use Rattle.std.specs.Option.{option_map}
-use Rattle.vl_block.specs.Founds.{found_of}
-use Rattle.vl_block.specs.declared.found.Found.{Found}
+use Rattle.vl_table.specs.body.Founds.{found_of}
+use Rattle.vl_table.specs.declared.body.found.Found.{Found}
 use Rattle.vl_model.specs.Winners.{newest_of}
 use Rattle.vl_model.specs.declared.entry.Entry.{Entry}
 use Rattle.vl_table.specs.Answers.{Failed}
 use Rattle.vl_table.specs.Kept.{Files}
 use Rattle.vl_table.specs.KeptBlocks.{ReadsOf}
 use Rattle.vl_table.specs.declared.block_reader.BlockReader.{BlockReader}
-use Rattle.vl_table.specs.declared.fault.TableFault.{TableFault}
-use Rattle.vl_table.specs.declared.fault.TableFault.TheVariants as table
+use Rattle.vl_disk.specs.declared.read_fault.ReadFault.{ReadFault}
+use Rattle.vl_disk.specs.declared.read_fault.ReadFault.TheVariants as table
 use Rattle.vl_table.specs.declared.table.Table.{Table}
-use Rattle.vl_version.specs.Faults.{table_read_fault}
 use Rattle.vl_version.specs.Newest.{stand_in}
 use Rattle.vl_version.specs.Over.{LooksOver, held_winner}
 use Rattle.vl_version.specs.Sources.{tables_in}
 use Rattle.vl_version.specs.declared.behind.Behind.{Behind}
-use Rattle.vl_version.specs.declared.fault.ReadFault.{ReadFault}
 use Rattle.vl_version.specs.declared.levels.Levels.{Levels}
 use Rattle.vl_version.specs.declared.levels.look.Look.{Look}
 use Rattle.vl_version.specs.declared.levels.look.Look.TheVariants.{UpTo}
@@ -37,7 +35,7 @@ module _ {H : Type 0} (bytes_of : H → Option (List ℕ)) where
       by [] is = cc
       by (u ∷ us) is = cc
 
-  names_none : (key : List ℕ) (r : Result (Option Found) TableFault) → NamesAsked bytes_of [] key r → Failed r → ⊥
+  names_none : (key : List ℕ) (r : Result (Option Found) ReadFault) → NamesAsked bytes_of [] key r → Failed r → ⊥
   names_none key (Ok found) names failed = failed
   names_none key (Err table.NoMemory) names failed = failed
   names_none key (Err (table.Disk name)) names failed = none_asked key names.table names.asked
@@ -45,7 +43,7 @@ module _ {H : Type 0} (bytes_of : H → Option (List ℕ)) where
 
   -- a look-up in no tables doesn't fail
   pub no_fault : {R : Type 0} (levels : Levels H) (look : Look) (key : List ℕ) (best : Option Entry) (before now : ℕ) (b : BlockReader R)
-      (r : Result (Option Found) TableFault) → tables_of levels ≡ []
+      (r : Result (Option Found) ReadFault) → tables_of levels ≡ []
       → ((files : Files) → ReadsOf bytes_of files b (tables_of levels)
       → LooksOn bytes_of (tables_of levels) (AreInOrder levels) look key best before now r)
       → Failed r → ⊥
@@ -64,7 +62,7 @@ module _ {H : Type 0} (bytes_of : H → Option (List ℕ)) where
     pub laid_behind : AreLaidOut version.behind.levels → AreLaidOut b.levels
     laid_behind laid = subst (λ (c : Behind H). AreLaidOut c.levels) (sym is) laid
 
-    pub on_version : (before now : ℕ) (r : Result (Option Found) TableFault)
+    pub on_version : (before now : ℕ) (r : Result (Option Found) ReadFault)
         → LooksOn bytes_of (tables_of b.levels) (AreInOrder b.levels) (UpTo number) key (option_map (found_of key) found) before now r
         → LooksOn bytes_of (tables_in version) (AreInOrder version.behind.levels) (UpTo number) key
         (option_map (found_of key) (stand_in (held_winner bytes_of version key number))) before now r
@@ -74,7 +72,7 @@ module _ {H : Type 0} (bytes_of : H → Option (List ℕ)) where
         (subst (λ (c : Behind H). LooksOn bytes_of (tables_of c.levels) (AreInOrder c.levels) (UpTo number) key
         (option_map (found_of key) found) before now r) is on)
 
-    in_version : (r : Result (Option Found) TableFault)
+    in_version : (r : Result (Option Found) ReadFault)
         → LooksInAll bytes_of (UpTo number) key (option_map (found_of key) found) (tables_of b.levels) r
         → LooksInAll bytes_of (UpTo number) key (option_map (found_of key) (stand_in (held_winner bytes_of version key number)))
         (tables_in version) r
@@ -93,7 +91,7 @@ module _ {H : Type 0} (bytes_of : H → Option (List ℕ)) where
         follows = subst (λ (v : Option Entry). answers v result) counts answer;
       }
 
-      pub over_fault : (why : TableFault)
+      pub over_fault : (why : ReadFault)
           → LooksInAll bytes_of (UpTo number) key (option_map (found_of key) found) (tables_of b.levels) (Err why)
-          → result ≡ Err (table_read_fault why) → LooksOver bytes_of version key number answers result
+          → result ≡ Err why → LooksOver bytes_of version key number answers result
       over_fault why looks answer = record { met = Err why; looks = in_version (Err why) looks; follows = answer }

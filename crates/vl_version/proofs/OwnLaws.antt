@@ -18,7 +18,7 @@ use Rattle.vl_model.specs.laws.WinnerLaws.{key_exact, same_key}
 use Rattle.vl_model.specs.declared.change.Change.{Change}
 use Rattle.vl_model.specs.declared.change.Change.TheVariants.{Set, Delete}
 use Rattle.vl_model.specs.declared.entry.Entry.{Entry}
-use Rattle.vl_run.specs.laws.OrderLaws.{IsBefore, IsRising}
+use Rattle.vl_model.specs.laws.OrderLaws.{IsBefore, IsRising}
 use Rattle.vl_version.specs.Own.{own_entries, own_entry}
 
 abbrev Write : Type 0

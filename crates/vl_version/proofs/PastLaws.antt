@@ -18,8 +18,8 @@ use Rattle.vl_table.specs.declared.block_reader.BlockReader.{BlockReader}
 use Rattle.vl_version.specs.Faults.{Failed}
 use Rattle.vl_version.specs.Past.{IsVersion, SeeksVersion}
 use Rattle.vl_version.specs.Sources.{tables_in}
-use Rattle.vl_version.specs.declared.fault.ReadFault.{ReadFault}
-use Rattle.vl_version.specs.declared.fault.ReadFault.TheVariants.{NoMemory, Disk, Damaged}
+use Rattle.vl_disk.specs.declared.read_fault.ReadFault.{ReadFault}
+use Rattle.vl_disk.specs.declared.read_fault.ReadFault.TheVariants.{NoMemory, Disk, Damaged}
 use Rattle.vl_version.specs.declared.version.Version.{Version}
 
 -- ---- the newest

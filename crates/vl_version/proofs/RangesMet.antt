@@ -6,15 +6,15 @@ use Rattle.std.specs.Ordering.{is_gt, is_lt, nat_cmp, ordering_then}
 use Rattle.std.specs.declared.cmp.Ordering.{Ordering}
 use Rattle.std.specs.declared.cmp.Ordering.TheVariants.{Less, Equal, Greater}
 use Rattle.std.proofs.Common.{refl, ap, sym, subst, ◌∙◌, cond}
-use Rattle.vl_block.specs.Cutting.{first_key, joined, last_key}
+use Rattle.vl_model.specs.Cutting.{first_key, joined, last_key}
 use Rattle.vl_model.specs.Entries.{entry_cmp}
 use Rattle.vl_model.specs.Keys.{key_cmp}
 use Rattle.vl_model.specs.Reads.{is_from, is_in_span, is_up_to}
 use Rattle.vl_model.specs.laws.WinnerLaws.{key_tied}
 use Rattle.vl_model.specs.declared.entry.Entry.{Entry}
 use Rattle.vl_model.specs.declared.span.Span.{Span}
-use Rattle.vl_run.specs.Order.{within}
-use Rattle.vl_run.specs.laws.OrderLaws.{IsRising, all-append}
+use Rattle.vl_model.specs.EntryOrder.{within}
+use Rattle.vl_model.specs.laws.OrderLaws.{IsRising, all-append}
 use Rattle.vl_table.specs.MayHold.{meets}
 use Rattle.vl_table.specs.OfTables.{AreOf}
 use Rattle.vl_table.specs.Tables.{IsOf, number_of, shape_of}

@@ -21,7 +21,7 @@ use Rattle.vl_model.specs.declared.entry.Body.TheVariants.{Far, Gone, Inline, Lo
 use Rattle.vl_model.specs.declared.entry.Entry.{Entry}
 use Rattle.vl_model.specs.declared.way.Way.{Way}
 use Rattle.vl_model.specs.declared.way.Way.TheVariants.{Up, Down}
-use Rattle.vl_merge.specs.Merging.{IsAlong, IsFirst}
+use Rattle.vl_model.specs.Merging.{IsAlong, IsFirst}
 use Rattle.vl_merge.specs.declared.hides.Hides.TheVariants as hiding
 use Rattle.vl_merge.specs.Visible.{shown}
 use Rattle.vl_version.specs.Rows.{AreRowsOf}

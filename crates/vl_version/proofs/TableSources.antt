@@ -8,29 +8,28 @@ use Rattle.std.proofs.lemmas.Bool.Decides.{nat_tests}
 use Rattle.std.proofs.lemmas.List.Elements.{filter-append}
 use Rattle.std.specs.Prelude.{true, false, ◌==◌, vec_len, Vec, Option, Some}
 use Rattle.std.specs.List.{slice_get}
-use Rattle.vl_block.specs.Cutting.{joined}
+use Rattle.vl_model.specs.Cutting.{joined}
 use Rattle.vl_disk.specs.declared.name.Name.{Name}
 use Rattle.vl_model.specs.Reads.{is_in_span}
 use Rattle.vl_model.specs.declared.entry.Entry.{Entry}
 use Rattle.vl_model.specs.declared.span.Span.{Span}
 use Rattle.vl_model.specs.declared.way.Way.{Way}
-use Rattle.vl_run.specs.Order.{along, within}
+use Rattle.vl_model.specs.EntryOrder.{along, within}
 use Rattle.vl_table.specs.CursorLeft.{cursor_left}
 use Rattle.vl_table.specs.CursorParts.{MayFailOn}
 use Rattle.vl_table.specs.MayHold.{meets}
 use Rattle.vl_table.specs.OfTables.{AreOf}
 use Rattle.vl_table.specs.Tables.{AreSame, IsOf, number_of, shape_of}
 use Rattle.vl_table.specs.declared.cursor.TableCursor.{TableCursor}
-use Rattle.vl_table.specs.declared.fault.TableFault.{TableFault}
-use Rattle.vl_table.specs.declared.fault.TableFault.TheVariants as table
+use Rattle.vl_disk.specs.declared.read_fault.ReadFault.{ReadFault}
+use Rattle.vl_disk.specs.declared.read_fault.ReadFault.TheVariants as table
 use Rattle.vl_table.specs.declared.table.Table.{Table}
 use Rattle.vl_table.specs.laws.TrueBlocks.{no_bad_block}
-use Rattle.vl_block.specs.Bytes.{table_bytes}
-use Rattle.vl_block.specs.Shapes.{IsShapeOf}
-use Rattle.vl_block.specs.declared.shape.TableShape.{TableShape}
-use Rattle.vl_version.specs.Faults.{table_read_fault}
+use Rattle.vl_table.specs.body.Bytes.{table_bytes}
+use Rattle.vl_table.specs.body.Shapes.{IsShapeOf}
+use Rattle.vl_table.specs.declared.body.shape.TableShape.{TableShape}
 use Rattle.vl_version.specs.Gathered.{Adds, HaveWithin}
-use Rattle.vl_version.specs.declared.fault.ReadFault.TheVariants.{Damaged}
+use Rattle.vl_disk.specs.declared.read_fault.ReadFault.TheVariants.{Damaged}
 use Rattle.vl_version.specs.declared.source.Source.{Source}
 use Rattle.vl_version.specs.declared.source.Source.TheVariants.{Tables}
 use Rattle.vl_version.specs.levels.LevelTables.{AreApart, all_tables}
@@ -131,8 +130,8 @@ module _ {H : Type 0} (bytes_of : H → Option (List ℕ)) where
   of_get (u ∷ us) (es ∷ ess) zero t are found = let same : u ≡ t = cc in (es, subst (λ (v : Table H). IsOf bytes_of v es) same are.0)
   of_get (u ∷ us) (es ∷ ess) (suc i) t are found = of_get us ess i t are.1 found
 
-  sound_tables : (ts : List (Table H)) (ess : List (List Entry)) (name : Name) (place : ℕ) (why : TableFault) → AreOf bytes_of ts ess
-      → MayFailOn bytes_of ts why → Damaged name place ≡ table_read_fault why → ⊥
+  sound_tables : (ts : List (Table H)) (ess : List (List Entry)) (name : Name) (place : ℕ) (why : ReadFault) → AreOf bytes_of ts ess
+      → MayFailOn bytes_of ts why → Damaged name place ≡ why → ⊥
   sound_tables ts ess name place table.NoMemory are may is = cc
   sound_tables ts ess name place (table.Disk file) are may is = cc
   sound_tables ts ess name place (table.Damaged file at) are may is =
@@ -143,7 +142,7 @@ module _ {H : Type 0} (bytes_of : H → Option (List ℕ)) where
       (are : AreOf bytes_of ts tabled) (within_met : HaveWithin bytes_of span (joined tabled) met) where
     pub adds_cursor : (cursor : TableCursor H R g k) (old now : List (Source H R g k))
         → ((ess : List (List Entry)) → AreOf bytes_of met ess → cursor_left bytes_of cursor ≡ Some (along way (within span (joined ess))))
-        → ((why : TableFault) → MayFailOn bytes_of cursor.tables.items why → MayFailOn bytes_of met why)
+        → ((why : ReadFault) → MayFailOn bytes_of cursor.tables.items why → MayFailOn bytes_of met why)
         → now ≡ old ++ Tables cursor ∷ [] → Adds bytes_of span way (joined tabled) old now
     adds_cursor cursor old now left fails joined_is =
         adds_more bytes_of span way (joined tabled) old (Tables cursor ∷ []) now joined_is (record {

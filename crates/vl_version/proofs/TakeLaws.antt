@@ -10,8 +10,8 @@ use Rattle.vl_model.specs.Keys.{Row}
 use Rattle.vl_model.specs.Winners.{Logs}
 use Rattle.vl_model.specs.declared.entry.Entry.{Entry}
 use Rattle.vl_version.specs.Answers.{IsAnswer, IsAstray}
-use Rattle.vl_version.specs.declared.fault.ReadFault.{ReadFault}
-use Rattle.vl_version.specs.declared.fault.ReadFault.TheVariants.{NoMemory, Disk, Damaged}
+use Rattle.vl_disk.specs.declared.read_fault.ReadFault.{ReadFault}
+use Rattle.vl_disk.specs.declared.read_fault.ReadFault.TheVariants.{NoMemory, Disk, Damaged}
 use Rattle.vl_version.specs.Near.{AreNear, IsNear}
 use Rattle.vl_version.specs.Rows.{AreRowsOf, IsKept, OneAstray, PushesRow}
 

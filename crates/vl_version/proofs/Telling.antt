@@ -13,12 +13,12 @@ use Rattle.vl_model.specs.Reads.{is_within}
 use Rattle.vl_model.specs.declared.entry.Entry.{Entry}
 use Rattle.vl_model.specs.declared.span.Span.{Span}
 use Rattle.vl_model.specs.declared.way.Way.{Way}
-use Rattle.vl_run.specs.Order.{along}
+use Rattle.vl_model.specs.EntryOrder.{along}
 use Rattle.vl_version.specs.Gathered.{Adds, GiveWinners, IsQuiet, TellWinners, span_of}
 use Rattle.vl_version.specs.Gives.{SourceMayFail, is_disk_fault, left_in}
 use Rattle.vl_version.specs.Own.{own_entries, own_left}
-use Rattle.vl_version.specs.declared.fault.ReadFault.{ReadFault}
-use Rattle.vl_version.specs.declared.fault.ReadFault.TheVariants.{NoMemory, Damaged}
+use Rattle.vl_disk.specs.declared.read_fault.ReadFault.{ReadFault}
+use Rattle.vl_disk.specs.declared.read_fault.ReadFault.TheVariants.{NoMemory, Damaged}
 use Rattle.vl_version.specs.declared.own.OwnCursor.{OwnCursor}
 use Rattle.vl_version.specs.declared.source.Source.{Source}
 use Rattle.vl_version.specs.declared.source.Source.TheVariants.{Own, Held}

@@ -16,8 +16,8 @@ use Rattle.vl_model.specs.declared.entry.Entry.{Entry}
 use Rattle.vl_model.specs.declared.span.Span.{Span}
 use Rattle.vl_model.specs.declared.way.Way.{Way}
 use Rattle.vl_model.specs.declared.way.Way.TheVariants.{Up, Down}
-use Rattle.vl_run.specs.Order.{along, within}
-use Rattle.vl_run.specs.laws.OrderLaws.{IsBefore, IsRising}
+use Rattle.vl_model.specs.EntryOrder.{along, within}
+use Rattle.vl_model.specs.laws.OrderLaws.{IsBefore, IsRising}
 
 newest_of-none : (a : Option Entry) → newest_of a None ≡ a
 newest_of-none None = refl

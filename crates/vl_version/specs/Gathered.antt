@@ -3,21 +3,21 @@ use Rattle.std.specs.declared.clone.Clone as Clone
 use Rattle.vl_disk.specs.declared.reader.HeldFile as HeldFile
 use Rattle.std.specs.Prelude.{◌≡◌, ◌++◌, ℕ, false, List, map, Option, Some, None, if◌then◌else◌}
 use Rattle.std.specs.List.{AllByRecursion, flat_map}
-use Rattle.vl_block.specs.Cutting.{joined}
+use Rattle.vl_model.specs.Cutting.{joined}
 use Rattle.vl_disk.specs.declared.name.Name.{Name}
 use Rattle.vl_merge.specs.MergeOf.{OneMayFail}
-use Rattle.vl_merge.specs.Merging.{IsAlong}
+use Rattle.vl_model.specs.Merging.{IsAlong}
 use Rattle.vl_model.specs.Reads.{bound, is_in_span}
 use Rattle.vl_model.specs.Winners.{winner}
 use Rattle.vl_model.specs.declared.entry.Entry.{Entry}
 use Rattle.vl_model.specs.declared.span.Span.{Span}
 use Rattle.vl_model.specs.declared.way.Way.{Way}
-use Rattle.vl_run.specs.Order.{within}
+use Rattle.vl_model.specs.EntryOrder.{within}
 use Rattle.vl_table.specs.OfTables.{AreOf}
 use Rattle.vl_table.specs.declared.table.Table.{Table}
 use Rattle.vl_version.specs.Gives.{SourceMayFail, is_disk_fault, left_in}
-use Rattle.vl_version.specs.declared.fault.ReadFault.{ReadFault}
-use Rattle.vl_version.specs.declared.fault.ReadFault.TheVariants.{Damaged}
+use Rattle.vl_disk.specs.declared.read_fault.ReadFault.{ReadFault}
+use Rattle.vl_disk.specs.declared.read_fault.ReadFault.TheVariants.{Damaged}
 use Rattle.vl_version.specs.declared.source.Source.{Source}
 
 -- the interval of a scan with these bounds, of which an empty one is none

@@ -5,11 +5,9 @@ use Rattle.std.specs.Prelude.{◌≡◌, ℕ, Bool, true, false, List, length, O
 use Rattle.vl_model.specs.declared.entry.Entry.{Entry}
 use Rattle.vl_table.specs.CursorLeft.{cursor_budget, cursor_left}
 use Rattle.vl_table.specs.CursorParts.{MayFailOn}
-use Rattle.vl_table.specs.declared.fault.TableFault.{TableFault}
-use Rattle.vl_version.specs.Faults.{table_read_fault}
+use Rattle.vl_disk.specs.declared.read_fault.ReadFault.{ReadFault}
 use Rattle.vl_version.specs.Own.{own_left}
-use Rattle.vl_version.specs.declared.fault.ReadFault.{ReadFault}
-use Rattle.vl_version.specs.declared.fault.ReadFault.TheVariants.{NoMemory, Disk, Damaged}
+use Rattle.vl_disk.specs.declared.read_fault.ReadFault.TheVariants.{NoMemory, Disk, Damaged}
 use Rattle.vl_version.specs.declared.source.Source.{Source}
 use Rattle.vl_version.specs.declared.source.Source.TheVariants.{Own, Held, Tables}
 
@@ -36,4 +34,4 @@ module _ {H R : Type 0} {g : HeldFile.Ghosts H} {k : Clone.Ghosts H} where
   SourceMayFail bytes_of (Own cursor) fault = fault ≡ NoMemory
   SourceMayFail bytes_of (Held cursor) fault = fault ≡ NoMemory
   SourceMayFail bytes_of (Tables cursor) fault =
-      (why : TableFault) × MayFailOn bytes_of cursor.tables.items why × (fault ≡ table_read_fault why)
+      (why : ReadFault) × MayFailOn bytes_of cursor.tables.items why × (fault ≡ why)

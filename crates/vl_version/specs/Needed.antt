@@ -1,7 +1,7 @@
 -- Which sealed logs a version needs, and which of them it holds behind a switch.
 use Rattle.std.specs.Prelude.{ℕ, ◌==◌, ◌||◌, nat_lt, not, Bool, List, ◌∷◌, Option, Some, None}
 use Rattle.std.specs.List.{list_any}
-use Rattle.vl_block.specs.declared.points.Point.{Point}
+use Rattle.vl_model.specs.declared.point.Point.{Point}
 use Rattle.vl_memtable.specs.declared.frozen_log.FrozenLog.{FrozenLog}
 use Rattle.vl_model.specs.Numbers.{has}
 use Rattle.vl_seglog.specs.declared.sealed.SealedLog.{SealedLog}

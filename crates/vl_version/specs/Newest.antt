@@ -1,8 +1,8 @@
 -- What counts of a key: of what memory has, and of what tables have.
 use Rattle.std.specs.Prelude.{ℕ, List, Option, Some, None}
-use Rattle.vl_block.specs.Founds.{found_of}
-use Rattle.vl_block.specs.declared.found.Found.{Found}
-use Rattle.vl_block.specs.declared.found.FoundBody.TheVariants.{Gone}
+use Rattle.vl_table.specs.body.Founds.{found_of}
+use Rattle.vl_table.specs.declared.body.found.Found.{Found}
+use Rattle.vl_table.specs.declared.body.found.FoundBody.TheVariants.{Gone}
 use Rattle.vl_model.specs.declared.entry.Entry.{Entry}
 use Rattle.vl_version.specs.declared.newest.Newest.{Newest}
 use Rattle.vl_version.specs.declared.newest.Newest.TheVariants as newest

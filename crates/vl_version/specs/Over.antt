@@ -2,15 +2,13 @@
 -- read and doesn't stand.
 use Rattle.std.specs.Prelude.{◌≡◌, ℕ, List, Option, Result, Ok, Err}
 use Rattle.std.specs.Option.{option_map}
-use Rattle.vl_block.specs.Founds.{found_of}
-use Rattle.vl_block.specs.declared.found.Found.{Found}
+use Rattle.vl_table.specs.body.Founds.{found_of}
+use Rattle.vl_table.specs.declared.body.found.Found.{Found}
 use Rattle.vl_model.specs.Winners.{newest_of, winner}
 use Rattle.vl_model.specs.declared.entry.Entry.{Entry}
-use Rattle.vl_table.specs.declared.fault.TableFault.{TableFault}
-use Rattle.vl_version.specs.Faults.{table_read_fault}
+use Rattle.vl_disk.specs.declared.read_fault.ReadFault.{ReadFault}
 use Rattle.vl_version.specs.Newest.{stand_in}
 use Rattle.vl_version.specs.Sources.{in_memory, tables_in}
-use Rattle.vl_version.specs.declared.fault.ReadFault.{ReadFault}
 use Rattle.vl_version.specs.declared.levels.look.Look.TheVariants.{UpTo}
 use Rattle.vl_version.specs.declared.version.Version.{Version}
 use Rattle.vl_version.specs.levels.LookedUp.{LooksInAll}
@@ -21,14 +19,14 @@ module _ {H : Type 0} (bytes_of : H → Option (List ℕ)) (version : Version H)
   held_winner = winner (in_memory version) key number
 
   -- What memory has is answered with what the tables have above it, where they were looked through; else their fault is.
-  abbrev pub FollowsFrom : {T : Type 0} → (Option Entry → Result T ReadFault → Type 0) → Result (Option Found) TableFault
+  abbrev pub FollowsFrom : {T : Type 0} → (Option Entry → Result T ReadFault → Type 0) → Result (Option Found) ReadFault
       → Result T ReadFault → Type 0
   FollowsFrom answers (Ok found) result = answers (newest_of held_winner (option_map (found_of key) found)) result
-  FollowsFrom answers (Err fault) result = result ≡ Err (table_read_fault fault)
+  FollowsFrom answers (Err fault) result = result ≡ Err fault
 
   -- All tables were looked through behind what memory has, or those up to the first that failed, and so it is answered.
   pub record LooksOver {T : Type 0} (answers : Option Entry → Result T ReadFault → Type 0) (result : Result T ReadFault)
       : Type 0 where
-    pub met : Result (Option Found) TableFault
+    pub met : Result (Option Found) ReadFault
     pub looks : LooksInAll bytes_of (UpTo number) key (option_map (found_of key) (stand_in held_winner)) (tables_in version) met
     pub follows : FollowsFrom answers met result

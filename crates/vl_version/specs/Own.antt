@@ -7,7 +7,7 @@ use Rattle.vl_model.specs.declared.change.Change.TheVariants.{Set, Delete}
 use Rattle.vl_model.specs.declared.entry.Body.{Body}
 use Rattle.vl_model.specs.declared.entry.Body.TheVariants.{Gone, Inline}
 use Rattle.vl_model.specs.declared.entry.Entry.{Entry}
-use Rattle.vl_run.specs.Order.{along}
+use Rattle.vl_model.specs.EntryOrder.{along}
 use Rattle.vl_version.specs.declared.own.OwnCursor.{OwnCursor}
 
 abbrev pub body_of : Change → Body

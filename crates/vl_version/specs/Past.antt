@@ -9,7 +9,7 @@ use Rattle.vl_table.specs.declared.block_reader.BlockReader.{BlockReader}
 use Rattle.vl_version.specs.Answers.{IsAnswer}
 use Rattle.vl_version.specs.Faults.{Failed}
 use Rattle.vl_version.specs.Sources.{HasEntries, tables_in}
-use Rattle.vl_version.specs.declared.fault.ReadFault.{ReadFault}
+use Rattle.vl_disk.specs.declared.read_fault.ReadFault.{ReadFault}
 use Rattle.vl_version.specs.declared.version.Version.{Version}
 
 -- just the version that is wanted is answered, if there is one, and no damage is met

@@ -1,7 +1,7 @@
 -- What the sources of a version hold, and where their pointers lead.
 use Rattle.std.specs.Prelude.{◌≡◌, ℕ, ◌<◌, ◌==◌, if◌then◌else◌, IsSome, List, [], ◌∷◌, ◌++◌, option_and_then, Option, Some, None}
 use Rattle.std.specs.List.{AllByRecursion, flat_map}
-use Rattle.vl_block.specs.Cutting.{joined}
+use Rattle.vl_model.specs.Cutting.{joined}
 use Rattle.vl_memtable.specs.declared.frozen_log.FrozenLog.{FrozenLog}
 use Rattle.vl_model.specs.Winners.{Logs, resolved}
 use Rattle.vl_model.specs.declared.entry.Entry.{Entry}

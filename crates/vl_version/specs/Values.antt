@@ -6,7 +6,7 @@ use Rattle.vl_model.specs.Keys.{Stored}
 use Rattle.vl_model.specs.declared.pointer.Pointer.{Pointer}
 use Rattle.vl_seglog.specs.Sealed.{IsHere, IsSmall}
 use Rattle.vl_version.specs.Answers.{IsAnswer}
-use Rattle.vl_version.specs.declared.fault.ReadFault.{ReadFault}
+use Rattle.vl_disk.specs.declared.read_fault.ReadFault.{ReadFault}
 use Rattle.vl_version.specs.declared.found.Found.{Found}
 use Rattle.vl_version.specs.declared.found.Found.TheVariants as found
 

@@ -4,10 +4,10 @@ ghost use Rattle.std.specs.Prelude.{◌≡◌};
 
 use crate::Version;
 use std::marker::PhantomData;
-use vl_disk::{HeldFile, Reader};
+use vl_disk::{HeldFile, ReadFault, Reader};
 use vl_merge::Sources;
 use vl_model::Entry;
-use vl_table::{BlockReader, TableFault};
+use vl_table::BlockReader;
 
 /// The sources of a store as a moment had them, as a merge of some of their tables asks them.
 ///
@@ -45,7 +45,7 @@ impl<H: HeldFile, R: Reader<Held = H>> Sources for Base<H, R> {
 
     type Reader = BlockReader<R>;
 
-    type Fault = TableFault;
+    type Fault = ReadFault;
 
     ghost has = { λ base inputs ms. HasSources H.bytes base.version inputs ms };
 
@@ -62,7 +62,7 @@ impl<H: HeldFile, R: Reader<Held = H>> Sources for Base<H, R> {
         reader: &mut BlockReader<R>,
         key: &[u8],
         version: u64,
-    ) -> Result<Option<Entry>, TableFault> {
+    ) -> Result<Option<Entry>, ReadFault> {
         self.version.exact(reader, key, version)
     }
 
@@ -72,7 +72,7 @@ impl<H: HeldFile, R: Reader<Held = H>> Sources for Base<H, R> {
         inputs: &[u32],
         key: &[u8],
         version: u64,
-    ) -> Result<bool, TableFault> {
+    ) -> Result<bool, ReadFault> {
         self.version.has_older(reader, inputs, key, version)
     }
 
@@ -82,7 +82,7 @@ impl<H: HeldFile, R: Reader<Held = H>> Sources for Base<H, R> {
         inputs: &[u32],
         key: &[u8],
         version: u64,
-    ) -> Result<bool, TableFault> {
+    ) -> Result<bool, ReadFault> {
         self.version.is_first_outside(reader, inputs, key, version)
     }
 }

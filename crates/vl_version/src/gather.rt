@@ -2,7 +2,7 @@
 
 ghost use Rattle.std.specs.Prelude.{◌≡◌, ◌++◌, [], List, map, IfOk, OnOk};
 ghost use Rattle.std.specs.FinMap.{entries};
-ghost use Rattle.vl_block.specs.Cutting.{joined};
+ghost use Rattle.vl_model.specs.Cutting.{joined};
 ghost use Rattle.vl_model.specs.Reads.{bound};
 ghost use Rattle.vl_model.specs.declared.entry.Entry.{Entry};
 ghost use Rattle.vl_table.specs.OfTables.{AreOf};
@@ -21,9 +21,8 @@ use crate::wanted::Wanted;
 use std::alloc::{AllocError, Global};
 use tables::add_levels;
 use vl_disk::{HeldFile, Reader};
-use vl_memtable::{FrozenLog, Memtable};
+use vl_memtable::{FrozenLog, Memtable, RunCursor};
 use vl_model::{Key, Span, Way};
-use vl_run::RunCursor;
 use vl_txn::Writes;
 
 /// Cursors over the own writes, the memtables and the tables, the newest source first, of which the own writes come before

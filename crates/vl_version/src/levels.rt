@@ -8,7 +8,7 @@ ghost use Rattle.std.specs.Prelude.{◌≡◌, [], None};
 ghost use Rattle.std.specs.Option.{option_map};
 ghost use Rattle.vl_disk.specs.Faults.{HasCause};
 ghost use Rattle.vl_model.specs.Winners.{exact};
-ghost use Rattle.vl_block.specs.Founds.{found_of};
+ghost use Rattle.vl_table.specs.body.Founds.{found_of};
 ghost use Rattle.vl_table.specs.Answers.{Failed, NeedsNoMemory};
 ghost use Rattle.vl_table.specs.Kept.{Files};
 ghost use Rattle.vl_table.specs.KeptBlocks.{AreKept, ReadsOf};
@@ -27,9 +27,8 @@ pub use level::Level;
 use look::Look;
 use lookup::{look_in, look_in_level};
 use std::alloc::Global;
-use vl_block::Found;
-use vl_disk::{HeldFile, Reader};
-use vl_table::{BlockReader, Table, TableFault};
+use vl_disk::{HeldFile, ReadFault, Reader};
+use vl_table::{BlockReader, Found, Table};
 
 /// The tables of a store by their levels.
 #[derive(Drop)]
@@ -80,7 +79,7 @@ impl<H: HeldFile> Levels<H> {
         key: &[u8],
         number: u64,
         newer: Option<Found>,
-    ) -> Result<Option<Found>, TableFault>
+    ) -> Result<Option<Found>, ReadFault>
         ensures kept { (files : Files) → ReadsOf H.bytes files reader.old (tables_of self.now) → AreKept files reader.new }
         ensures answers { (files : Files) → ReadsOf H.bytes files reader.old (tables_of self.now)
             → LooksOn H.bytes (tables_of self.now) (AreInOrder self.now) (looks.UpTo number) key.now
@@ -102,7 +101,7 @@ impl<H: HeldFile> Levels<H> {
         reader: &mut BlockReader<R>,
         key: &[u8],
         version: u64,
-    ) -> Result<Option<Found>, TableFault>
+    ) -> Result<Option<Found>, ReadFault>
         ensures kept { (files : Files) → ReadsOf H.bytes files reader.old (tables_of self.now) → AreKept files reader.new }
         ensures answers { (files : Files) → ReadsOf H.bytes files reader.old (tables_of self.now)
             → LookedUp H.bytes (tables_of self.now) (AreInOrder self.now) (λ es. exact es key.now version) key.now
@@ -122,7 +121,7 @@ impl<H: HeldFile> Levels<H> {
         key: &[u8],
         look: Look,
         newer: Option<Found>,
-    ) -> Result<Option<Found>, TableFault>
+    ) -> Result<Option<Found>, ReadFault>
         ensures kept { (files : Files) → ReadsOf H.bytes files reader.old (tables_of self.now) → AreKept files reader.new }
         ensures answers { (files : Files) → ReadsOf H.bytes files reader.old (tables_of self.now)
             → LooksOn H.bytes (tables_of self.now) (AreInOrder self.now) look key.now (option_map (found_of key.now) newer)
@@ -144,7 +143,7 @@ fn look_in_each<H: HeldFile, R: Reader<Held = H>>(
     key: &[u8],
     look: Look,
     newer: Option<Found>,
-) -> Result<Option<Found>, TableFault>
+) -> Result<Option<Found>, ReadFault>
     ensures kept { (files : Files) → ReadsOf H.bytes files reader.old tables.now → AreKept files reader.new }
     ensures answers { (files : Files) → ReadsOf H.bytes files reader.old tables.now
         → LooksOn H.bytes tables.now (Unit {0}) look key.now (option_map (found_of key.now) newer)
@@ -168,7 +167,7 @@ fn look_in_levels<H: HeldFile, R: Reader<Held = H>>(
     key: &[u8],
     look: Look,
     newer: Option<Found>,
-) -> Result<Option<Found>, TableFault>
+) -> Result<Option<Found>, ReadFault>
     ensures kept { (files : Files) → ReadsOf H.bytes files reader.old (all_tables levels.now) → AreKept files reader.new }
     ensures answers { (files : Files) → ReadsOf H.bytes files reader.old (all_tables levels.now)
         → LooksOn H.bytes (all_tables levels.now) (AreAllApart levels.now) look key.now (option_map (found_of key.now) newer)

@@ -19,7 +19,6 @@
 
 mod base;
 mod behind;
-mod fault;
 mod flushing;
 mod found;
 mod frozen;

@@ -2,13 +2,13 @@
 
 ghost use Rattle.std.specs.Prelude.{◌≡◌, List, ℕ};
 ghost use Rattle.std.specs.Option.{option_copied, option_map};
-ghost use Rattle.vl_block.specs.Founds.{found_of};
+ghost use Rattle.vl_table.specs.body.Founds.{found_of};
 ghost use Rattle.vl_model.specs.Winners.{newest_of};
 ghost use Rattle.vl_model.specs.declared.entry.Entry.{Entry};
 ghost use Rattle.vl_version.specs.Newest as what;
 
-use vl_block::{Found, FoundBody};
 use vl_model::Entry;
+use vl_table::{Found, FoundBody};
 
 /// What counts of a key.
 #[derive(Clone, Copy)]

@@ -53,7 +53,7 @@ impl<'a> Cursor for OwnCursor<'a> {
 
 impl<'a> OwnCursor<'a> {
     ghost use Rattle.vl_version.specs.Own.{own_left, own_entries};
-    ghost use Rattle.vl_run.specs.Order.{along};
+    ghost use Rattle.vl_model.specs.EntryOrder.{along};
 
     /// A cursor over those of these writes, whose keys rise, that are from `low` on and below `high`, which are found by
     /// halving.

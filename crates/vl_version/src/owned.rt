@@ -1,11 +1,11 @@
 //! What a look-up has found as an entry with memory of its own.
 
 ghost use Rattle.std.specs.Prelude.{◌≡◌, IfOk};
-ghost use Rattle.vl_block.specs.Founds.{found_body, found_of};
+ghost use Rattle.vl_table.specs.body.Founds.{found_body, found_of};
 
 use std::alloc::{AllocError, Global};
-use vl_block::{Found, FoundBody};
 use vl_model::{Body, Entry, Key, Value};
+use vl_table::{Found, FoundBody};
 
 /// The entry that was found of a key.
 pub fn owned_entry(alloc: Global, key: &[u8], found: &Found) -> Result<Entry, AllocError>

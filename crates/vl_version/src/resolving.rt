@@ -4,7 +4,7 @@ ghost use Rattle.std.specs.Prelude.{◌≡◌, IfSome, Some, IsErrOf};
 ghost use Rattle.std.specs.Option.{option_copied};
 ghost use Rattle.vl_disk.specs.Faults.{HasCause};
 ghost use Rattle.vl_disk.specs.declared.name.Name.TheVariants as names;
-ghost use Rattle.vl_block.specs.Founds.{found_of};
+ghost use Rattle.vl_table.specs.body.Founds.{found_of};
 ghost use Rattle.vl_model.specs.Keys.{Stored};
 ghost use Rattle.vl_version.specs.Answers.{Fills, Gives, IsFound};
 ghost use Rattle.vl_version.specs.Faults.{Failed};
@@ -12,15 +12,15 @@ ghost use Rattle.vl_version.specs.Near.{IsNear, IsNearEntry};
 ghost use Rattle.vl_version.specs.Newest.{newest_entry};
 ghost use Rattle.vl_version.specs.Sources.{AreRising, AreTold, log_in, stored_in};
 ghost use Rattle.vl_version.specs.Values.{FillsFar, GivesFar, IsPut};
-ghost use Rattle.vl_version.specs.declared.fault.ReadFault.TheVariants as why;
+ghost use Rattle.vl_disk.specs.declared.read_fault.ReadFault.TheVariants as why;
 
+use crate::Found;
 use crate::newest::Newest;
-use crate::{Found, ReadFault};
 use std::alloc::Global;
-use vl_block::{Found as TableFound, FoundBody};
-use vl_disk::{HeldFile, Name, Reader};
+use vl_disk::{HeldFile, Name, ReadFault, Reader};
 use vl_model::{Body, Entry, Pointer, Value};
 use vl_seglog::{Filled, SealedLog};
+use vl_table::{Found as TableFound, FoundBody};
 
 /// The value to which what counts of a key leads; none where that is a deletion, or nothing.
 pub fn resolve_newest<H: HeldFile, R: Reader<Held = H>>(

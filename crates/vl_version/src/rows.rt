@@ -10,13 +10,12 @@ ghost use Rattle.vl_version.specs.Gives.{is_disk_fault};
 ghost use Rattle.vl_version.specs.Near.{AreNear, IsNear};
 ghost use Rattle.vl_version.specs.Rows.{AreRowsOf, IsKept, OneAstray, PushesRow};
 ghost use Rattle.vl_version.specs.Sources.{AreTold, stored_in};
-ghost use Rattle.vl_version.specs.declared.fault.ReadFault.{ReadFault};
-ghost use Rattle.vl_version.specs.declared.fault.ReadFault.TheVariants as why;
+ghost use Rattle.vl_disk.specs.declared.read_fault.ReadFault.{ReadFault};
+ghost use Rattle.vl_disk.specs.declared.read_fault.ReadFault.TheVariants as why;
 
-use crate::ReadFault;
 use crate::resolving::resolve;
 use std::alloc::Global;
-use vl_disk::{HeldFile, Reader};
+use vl_disk::{HeldFile, ReadFault, Reader};
 use vl_model::{Cursor, Entry, Key, Value};
 use vl_seglog::SealedLog;
 

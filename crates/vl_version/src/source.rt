@@ -1,10 +1,9 @@
 //! One source of a scan.
 
-use crate::ReadFault;
 use crate::own::OwnCursor;
-use vl_disk::{HeldFile, Reader};
+use vl_disk::{HeldFile, ReadFault, Reader};
+use vl_memtable::RunCursor;
 use vl_model::{Cursor, Entry};
-use vl_run::RunCursor;
 use vl_table::TableCursor;
 
 /// The entries of one source: the caller's own writes, a run in memory, or tables. It is read with any reader of the version's

@@ -6,12 +6,12 @@ use Rattle.vl_engine.specs.Answers.{begin_outcome, view_outcome}
 use Rattle.vl_engine.specs.Sees.{Sees, SeesAlone}
 use Rattle.vl_engine.specs.declared.txn.Txn.{Txn}
 use Rattle.vl_engine.specs.declared.view.View.{View}
-use Rattle.vl_layout.specs.LockHistory.{OpenTicket, number_of, open_tickets, opened, tickets_after}
-use Rattle.vl_layout.specs.Rulings.Begin.{begun}
-use Rattle.vl_layout.specs.declared.layout.Layout.{Layout}
-use Rattle.vl_layout.specs.declared.lock_history.LockEntry.{LockEntry}
-use Rattle.vl_layout.specs.declared.lock_history.LockStep.TheVariants.{Begun}
-use Rattle.vl_layout.specs.laws.LockHistoryLaws.{history_of-same}
+use Rattle.vl_engine_model.specs.LockHistory.{OpenTicket, number_of, open_tickets, opened, tickets_after}
+use Rattle.vl_engine_model.specs.Rulings.Begin.{begun}
+use Rattle.vl_engine_model.specs.declared.layout.Layout.{Layout}
+use Rattle.vl_engine_model.specs.declared.lock_history.LockEntry.{LockEntry}
+use Rattle.vl_engine_model.specs.declared.lock_history.LockStep.TheVariants.{Begun}
+use Rattle.vl_engine_model.specs.laws.LockHistoryLaws.{history_of-same}
 use Rattle.vl_model.specs.History.{History}
 use Rattle.vl_engine.specs.declared.BeginFail.{BeginFail}
 use Rattle.vlstore.specs.Entries.{begin_entry}

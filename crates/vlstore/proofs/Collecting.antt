@@ -5,31 +5,31 @@ use Rattle.std.specs.Prelude.{Bool, true, false, IsTrue, ◌==◌, ◌+◌, nat_
 use Rattle.std.specs.Global.{Global}
 use Rattle.std.specs.List.{AllByRecursion}
 use Rattle.std.specs.Option.{option_map}
-use Rattle.vl_core.specs.Passing.{AreReadable}
-use Rattle.vl_core.specs.declared.kept.Core.{Core}
+use Rattle.vl_engine_laws.specs.Passing.{AreReadable}
+use Rattle.vl_engine_laws.specs.declared.kept.Core.{Core}
 use Rattle.vl_engine.specs.Collecting.{Collects, Tallies}
 use Rattle.vl_engine.specs.declared.open.Collecting.{Collecting}
-use Rattle.vl_layout.specs.Decides.{Decides, Effects, Outcome, as_before}
-use Rattle.vl_layout.specs.Ruling.{Ruling, halted_at, has_no_number, has_no_version, leaving}
-use Rattle.vl_layout.specs.Rulings.Begin.{begin_ruling}
-use Rattle.vl_layout.specs.Rulings.Commit as commit
-use Rattle.vl_layout.specs.Rulings.Commit.{CommitAnswer, Transaction, commit_checked}
-use Rattle.vl_layout.specs.Rulings.Commit.{commit_ended, commit_frame, commit_lost, commit_ruling}
-use Rattle.vl_layout.specs.Rulings.Commit.{commit_running, commit_unless, committed}
-use Rattle.vl_layout.specs.Levels.{due_from, first_into}
-use Rattle.vl_layout.specs.Relocation.{Candidate, Pass, moved_of}
-use Rattle.vl_layout.specs.Rulings.Drain.{drain_of, drain_ruling, drain_unless}
-use Rattle.vl_layout.specs.Rulings.Fresh.{fresh_ruling, fresh_unless}
-use Rattle.vl_layout.specs.Rulings.Plan.{plan_of, plan_ruling, plan_unless}
-use Rattle.vl_layout.specs.Rulings.Relocate.{relocate_of, relocate_ruling, relocate_unless}
-use Rattle.vl_layout.specs.Sources.{rising, sources, tables}
-use Rattle.vl_layout.specs.Tidy.{log_numbers, sealed}
-use Rattle.vl_layout.specs.declared.file_name.FileName.{FileName}
-use Rattle.vl_layout.specs.declared.job.OpenJob.{OpenJob}
-use Rattle.vl_layout.specs.declared.job.OpenPass.{OpenPass}
-use Rattle.vl_layout.specs.declared.layout.Layout.{Layout}
-use Rattle.vl_layout.specs.declared.segment.Segment.{Segment}
-use Rattle.vl_layout.specs.declared.table.Table.{Table}
+use Rattle.vl_engine_model.specs.Decides.{Decides, Effects, Outcome, as_before}
+use Rattle.vl_engine_model.specs.Ruling.{Ruling, halted_at, has_no_number, has_no_version, leaving}
+use Rattle.vl_engine_model.specs.Rulings.Begin.{begin_ruling}
+use Rattle.vl_engine_model.specs.Rulings.Commit as commit
+use Rattle.vl_engine_model.specs.Rulings.Commit.{CommitAnswer, Transaction, commit_checked}
+use Rattle.vl_engine_model.specs.Rulings.Commit.{commit_ended, commit_frame, commit_lost, commit_ruling}
+use Rattle.vl_engine_model.specs.Rulings.Commit.{commit_running, commit_unless, committed}
+use Rattle.vl_engine_model.specs.Levels.{due_from, first_into}
+use Rattle.vl_engine_model.specs.Relocation.{Candidate, Pass, moved_of}
+use Rattle.vl_engine_model.specs.Rulings.Drain.{drain_of, drain_ruling, drain_unless}
+use Rattle.vl_engine_model.specs.Rulings.Fresh.{fresh_ruling, fresh_unless}
+use Rattle.vl_engine_model.specs.Rulings.Plan.{plan_of, plan_ruling, plan_unless}
+use Rattle.vl_engine_model.specs.Rulings.Relocate.{relocate_of, relocate_ruling, relocate_unless}
+use Rattle.vl_engine_model.specs.Sources.{rising, sources, tables}
+use Rattle.vl_engine_model.specs.Tidy.{log_numbers, sealed}
+use Rattle.vl_engine_model.specs.declared.file_name.FileName.{FileName}
+use Rattle.vl_engine_model.specs.declared.job.OpenJob.{OpenJob}
+use Rattle.vl_engine_model.specs.declared.job.OpenPass.{OpenPass}
+use Rattle.vl_engine_model.specs.declared.layout.Layout.{Layout}
+use Rattle.vl_engine_model.specs.declared.segment.Segment.{Segment}
+use Rattle.vl_engine_model.specs.declared.table.Table.{Table}
 use Rattle.vl_model.specs.Conflicts.{Named, first_conflict}
 use Rattle.vl_model.specs.Frames.{frame_length}
 use Rattle.vl_model.specs.History.{History, last_number}

@@ -1,9 +1,9 @@
 -- The commits of lawful steps have the numbers behind the first one, in order and each once.
 use Rattle.std.proofs.Common.{◌≡◌, ℕ, ◌+◌, List, [], ◌∷◌, length, refl, ap, ◌∙◌}
-use Rattle.vl_layout.specs.LockHistory.{IsLegalFrom, IsLegalStep, OpenThings, commits_of, number_after, put_after, things_after}
-use Rattle.vl_layout.specs.declared.lock_history.LockEntry.{LockEntry}
-use Rattle.vl_layout.specs.declared.lock_history.LockStep.{LockStep}
-use Rattle.vl_layout.specs.declared.lock_history.LockStep.TheVariants.{Begun, Changed, Ended, JobEnded, PassEnded, Picked, Planned, Put}
+use Rattle.vl_engine_model.specs.LockHistory.{IsLegalFrom, IsLegalStep, OpenThings, commits_of, number_after, put_after, things_after}
+use Rattle.vl_engine_model.specs.declared.lock_history.LockEntry.{LockEntry}
+use Rattle.vl_engine_model.specs.declared.lock_history.LockStep.{LockStep}
+use Rattle.vl_engine_model.specs.declared.lock_history.LockStep.TheVariants.{Begun, Changed, Ended, JobEnded, PassEnded, Picked, Planned, Put}
 use Rattle.vlstore.specs.Lists.{number_put, numbers_from, numbers_put}
 
 pub puts_counted : (last : ℕ) (o : OpenThings) (es : List LockEntry) → IsLegalFrom last o es

@@ -12,7 +12,7 @@ use Rattle.atomic_table.proofs.shared.Seat.TheSendSync as seat
 use Rattle.vl_back.proofs.back.Back.TheSendSync as back
 use Rattle.vl_conflict.proofs.tree.Tree.TheLaws.TheKnot as knot
 use Rattle.vl_conflict.specs.contracts.recent.Recent as Recent
-use Rattle.vl_core.specs.contracts.kept.Core as Core
+use Rattle.vl_engine_laws.specs.contracts.kept.Core as Core
 use Rattle.vl_disk.proofs.name.Name.TheSendSync as name
 use Rattle.vl_compact.proofs.files.Lent.TheSendSync as lent
 use Rattle.vl_engine.proofs.open.Collecting.TheSendSync as collecting

@@ -5,22 +5,22 @@ use Rattle.std.specs.Prelude.{Bool, true, false, ◌==◌, ◌||◌, Option, Non
 use Rattle.std.specs.List.{AllByRecursion}
 use Rattle.std.specs.Option.{option_map}
 use Rattle.vl_compact.specs.declared.files.Lent.{Lent}
-use Rattle.vl_core.specs.Represents.{file_of}
+use Rattle.vl_engine_laws.specs.Represents.{file_of}
 use Rattle.vl_engine.specs.Drawing.{IsLentMore, IsSameMerge}
 use Rattle.vl_engine.specs.Merging.{fresh_outcome}
 use Rattle.vl_engine.specs.declared.fails.StepFail.{StepFail}
 use Rattle.vl_engine.specs.declared.fails.StepFail.TheVariants as fails
 use Rattle.vl_engine.specs.declared.open.OpenMerge.{OpenMerge}
-use Rattle.vl_layout.specs.Decides.{Answered, Damaged, Failed, NoMemory, Outcome}
-use Rattle.vl_layout.specs.LockHistory.{IsOwn, last_layout, open_job}
-use Rattle.vl_layout.specs.Ruling.{halted_at}
-use Rattle.vl_layout.specs.Rulings.Fresh as fresh
-use Rattle.vl_layout.specs.Rulings.Fresh.{FreshAnswer, lent_to}
-use Rattle.vl_layout.specs.declared.job.OpenJob.{OpenJob}
-use Rattle.vl_layout.specs.declared.layout.Layout.{Layout}
-use Rattle.vl_layout.specs.declared.lock_history.LockEntry.{LockEntry}
-use Rattle.vl_layout.specs.declared.lock_history.LockStep.TheVariants.{Changed}
-use Rattle.vl_layout.specs.laws.LockHistoryLaws.{last_layout-append, none≢some}
+use Rattle.vl_engine_model.specs.Decides.{Answered, Damaged, Failed, NoMemory, Outcome}
+use Rattle.vl_engine_model.specs.LockHistory.{IsOwn, last_layout, open_job}
+use Rattle.vl_engine_model.specs.Ruling.{halted_at}
+use Rattle.vl_engine_model.specs.Rulings.Fresh as fresh
+use Rattle.vl_engine_model.specs.Rulings.Fresh.{FreshAnswer, lent_to}
+use Rattle.vl_engine_model.specs.declared.job.OpenJob.{OpenJob}
+use Rattle.vl_engine_model.specs.declared.layout.Layout.{Layout}
+use Rattle.vl_engine_model.specs.declared.lock_history.LockEntry.{LockEntry}
+use Rattle.vl_engine_model.specs.declared.lock_history.LockStep.TheVariants.{Changed}
+use Rattle.vl_engine_model.specs.laws.LockHistoryLaws.{last_layout-append, none≢some}
 use Rattle.vl_model.specs.History.{History}
 use Rattle.vl_model.specs.Numbers.{has}
 use Rattle.vlstore.specs.Entries.{drawn_at, fresh_entry}

@@ -5,20 +5,20 @@ use Rattle.std.specs.FinMap.{empty, empty_of_len, from_sorted, get, get-empty, l
 use Rattle.std.specs.List.{flat_map}
 use Rattle.std.specs.Ordering.{nat_cmp}
 use Rattle.std.proofs.Common.{sym, ◌∙◌, ap, subst, arith}
-use Rattle.vl_core.specs.Files.{found_levels}
-use Rattle.vl_core.specs.Found.{recovered}
-use Rattle.vl_core.specs.Pointed.{stored_among}
-use Rattle.vl_core.specs.Shown.{EntriesShow, Shown, entries_among, logs_entries, tables_among}
-use Rattle.vl_core.specs.laws.ReopenedShown.{none_show}
+use Rattle.vl_engine_laws.specs.Files.{found_levels}
+use Rattle.vl_engine_laws.specs.Found.{recovered}
+use Rattle.vl_engine_laws.specs.Pointed.{stored_among}
+use Rattle.vl_engine_laws.specs.Shown.{EntriesShow, Shown, entries_among, logs_entries, tables_among}
+use Rattle.vl_engine_laws.specs.laws.ReopenedShown.{none_show}
 use Rattle.vl_disk.specs.Crash.{Image}
 use Rattle.vl_disk.specs.DiskState.{empty_disk}
 use Rattle.vl_disk.specs.Name.{name_cmp}
 use Rattle.vl_disk.specs.Started.{IsRead, started_empty, started_read}
 use Rattle.vl_disk.specs.declared.name.Name.{Name}
 use Rattle.vl_disk.specs.declared.name.Name.TheVariants.{Log, Manifest, Table}
-use Rattle.vl_layout.specs.Sources.{numbers_of}
-use Rattle.vl_layout.specs.Start.{layout_at_start, no_tables}
-use Rattle.vl_layout.specs.declared.table.Table as laid
+use Rattle.vl_engine_model.specs.Sources.{numbers_of}
+use Rattle.vl_engine_model.specs.Start.{layout_at_start, no_tables}
+use Rattle.vl_engine_model.specs.declared.table.Table as laid
 use Rattle.vl_manifest.specs.States.{fresh_state}
 use Rattle.vl_model.specs.History.{History, Past, last_number, no_history}
 use Rattle.vl_model.specs.Limits.{max_room}

@@ -26,10 +26,10 @@ use Rattle.vl_engine.specs.declared.fails.SweepFail.{SweepFail}
 use Rattle.vl_engine.specs.declared.fails.SweepFail.TheVariants as sweep
 use Rattle.vl_engine.specs.declared.txn.Txn.{Txn}
 use Rattle.vl_engine.specs.declared.view.View.{View}
-use Rattle.vl_layout.specs.Decides.{Answered, Damaged, Failed, NoMemory, Outcome}
-use Rattle.vl_layout.specs.Rulings.Pick.{PickAnswer}
-use Rattle.vl_layout.specs.declared.file_name.FileName.{FileName}
-use Rattle.vl_layout.specs.declared.job.Job.{Job}
+use Rattle.vl_engine_model.specs.Decides.{Answered, Damaged, Failed, NoMemory, Outcome}
+use Rattle.vl_engine_model.specs.Rulings.Pick.{PickAnswer}
+use Rattle.vl_engine_model.specs.declared.file_name.FileName.{FileName}
+use Rattle.vl_engine_model.specs.declared.job.Job.{Job}
 use Rattle.vl_oracle.specs.declared.begin_fail.BeginFail.{BeginFail}
 use Rattle.vl_oracle.specs.declared.begin_fail.BeginFail.TheVariants as begin
 use Rattle.vlstore.specs.Standing.{NeverFails}

@@ -3,16 +3,16 @@ use Rattle.std.proofs.Common.{◌≡◌, ℕ, List, [], refl, sym, ap, ◌∙◌
 use Rattle.std.proofs.lemmas.Bool.{false≢true}
 use Rattle.std.specs.Prelude.{Bool, true, Option, None, Some, is_some}
 use Rattle.std.specs.Option.{option_map}
-use Rattle.vl_core.specs.MayStep.{Fits}
-use Rattle.vl_core.specs.Represents.{Represents}
+use Rattle.vl_engine_laws.specs.MayStep.{Fits}
+use Rattle.vl_engine_laws.specs.Represents.{Represents}
 use Rattle.vl_engine.specs.Collecting.{Collects}
 use Rattle.vl_engine.specs.Lent.{Opens}
 use Rattle.vl_engine.specs.Removing.{Removes}
 use Rattle.vl_engine.specs.declared.open.OpenMerge.{OpenMerge}
-use Rattle.vl_layout.specs.LockHistory.{HasOpen, nothing_open}
-use Rattle.vl_layout.specs.declared.job.OpenJob.{OpenJob}
-use Rattle.vl_layout.specs.declared.layout.Layout.{Layout}
-use Rattle.vl_layout.specs.laws.LockHistoryLaws.{none≢some}
+use Rattle.vl_engine_model.specs.LockHistory.{HasOpen, nothing_open}
+use Rattle.vl_engine_model.specs.declared.job.OpenJob.{OpenJob}
+use Rattle.vl_engine_model.specs.declared.layout.Layout.{Layout}
+use Rattle.vl_engine_model.specs.laws.LockHistoryLaws.{none≢some}
 use Rattle.vl_model.specs.History.{History}
 use Rattle.vlstore.specs.Lists.{history_by}
 use Rattle.vlstore.specs.Standing.{IsWhole, Parts, Stands}

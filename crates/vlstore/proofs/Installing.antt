@@ -3,22 +3,22 @@ use Rattle.std.proofs.Common.{◌≡◌, ℕ, List, [], ◌∷◌, ◌++◌, ref
 use Rattle.std.specs.Prelude.{Bool, true, false, if◌then◌else◌, Option, None, Some, Result, Ok, Err}
 use Rattle.std.specs.Option.{ForSome}
 use Rattle.vl_compact.specs.declared.job.Job as given
-use Rattle.vl_core.specs.Represents.{file_of}
+use Rattle.vl_engine_laws.specs.Represents.{file_of}
 use Rattle.vl_disk.specs.declared.writer.Writer.{Ghosts as Writers}
 use Rattle.vl_engine.specs.Installing.{HandsBack}
 use Rattle.vl_engine.specs.Merging.{install_outcome}
 use Rattle.vl_engine.specs.declared.fails.InstallFail.{InstallFail}
 use Rattle.vl_engine.specs.declared.fails.InstallFail.TheVariants as fails
 use Rattle.vl_engine.specs.declared.open.OpenMerge.{OpenMerge}
-use Rattle.vl_layout.specs.Jobs.{Made, job_ended}
-use Rattle.vl_layout.specs.LockHistory.{IsOwn, last_layout, open_job}
-use Rattle.vl_layout.specs.Ruling.{Ruling, halted_at, has_no_version}
-use Rattle.vl_layout.specs.Rulings.Install.{InstallAnswer, install_checked, install_ruling, install_unless, moved_since, race}
-use Rattle.vl_layout.specs.declared.file_name.FileName.{FileName}
-use Rattle.vl_layout.specs.declared.job.Job.{Job}
-use Rattle.vl_layout.specs.declared.layout.Layout.{Layout}
-use Rattle.vl_layout.specs.declared.lock_history.LockEntry.{LockEntry}
-use Rattle.vl_layout.specs.declared.lock_history.LockStep.TheVariants.{JobEnded}
+use Rattle.vl_engine_model.specs.Jobs.{Made, job_ended}
+use Rattle.vl_engine_model.specs.LockHistory.{IsOwn, last_layout, open_job}
+use Rattle.vl_engine_model.specs.Ruling.{Ruling, halted_at, has_no_version}
+use Rattle.vl_engine_model.specs.Rulings.Install.{InstallAnswer, install_checked, install_ruling, install_unless, moved_since, race}
+use Rattle.vl_engine_model.specs.declared.file_name.FileName.{FileName}
+use Rattle.vl_engine_model.specs.declared.job.Job.{Job}
+use Rattle.vl_engine_model.specs.declared.layout.Layout.{Layout}
+use Rattle.vl_engine_model.specs.declared.lock_history.LockEntry.{LockEntry}
+use Rattle.vl_engine_model.specs.declared.lock_history.LockStep.TheVariants.{JobEnded}
 use Rattle.vl_model.specs.Conflicts.{Named}
 use Rattle.vl_model.specs.History.{History}
 use Rattle.vlstore.specs.Entries.{install_entry}
@@ -26,7 +26,7 @@ use Rattle.vlstore.specs.Handing.{IsHandedInto, job_back}
 use Rattle.vlstore.specs.Knowing.{Knows}
 use Rattle.vlstore.specs.Lists.{layout_by}
 use Rattle.vlstore.specs.Merges.{MergesBy, lent_in}
-use Rattle.vl_layout.specs.laws.LockHistoryLaws.{none≢some}
+use Rattle.vl_engine_model.specs.laws.LockHistoryLaws.{none≢some}
 use Rattle.vlstore.specs.declared.locked.Origin.{Origin}
 use Rattle.vlstore.proofs.Drawing.{some_is}
 use Rattle.vlstore.proofs.Lending.{merges_ended}

@@ -3,13 +3,13 @@ use Rattle.std.proofs.Common.{◌≡◌, ℕ, List, [], ◌∷◌, ◌++◌, ref
 use Rattle.std.proofs.lemmas.Bool.Decides.{nat_tests}
 use Rattle.std.specs.Prelude.{Bool, true, false, cond, ◌==◌, ◌&&◌, not, nat_lt, Option, None, Some}
 use Rattle.std.specs.List.{AllByRecursion}
-use Rattle.vl_core.specs.Lasts.{Lasts}
-use Rattle.vl_layout.specs.LockHistory.{OpenTicket, closed, number_of, open_pass, open_tickets, opened, pass_after, tickets_after}
-use Rattle.vl_layout.specs.declared.layout.Layout.{Layout}
-use Rattle.vl_layout.specs.declared.lock_history.LockEntry.{LockEntry}
-use Rattle.vl_layout.specs.declared.lock_history.LockStep.{LockStep}
-use Rattle.vl_layout.specs.declared.lock_history.LockStep.TheVariants.{Begun, Changed, Ended, JobEnded, PassEnded, Picked}
-use Rattle.vl_layout.specs.declared.lock_history.LockStep.TheVariants.{Planned, Put}
+use Rattle.vl_engine_laws.specs.Lasts.{Lasts}
+use Rattle.vl_engine_model.specs.LockHistory.{OpenTicket, closed, number_of, open_pass, open_tickets, opened, pass_after, tickets_after}
+use Rattle.vl_engine_model.specs.declared.layout.Layout.{Layout}
+use Rattle.vl_engine_model.specs.declared.lock_history.LockEntry.{LockEntry}
+use Rattle.vl_engine_model.specs.declared.lock_history.LockStep.{LockStep}
+use Rattle.vl_engine_model.specs.declared.lock_history.LockStep.TheVariants.{Begun, Changed, Ended, JobEnded, PassEnded, Picked}
+use Rattle.vl_engine_model.specs.declared.lock_history.LockStep.TheVariants.{Planned, Put}
 use Rattle.vl_seglog.specs.declared.sealed.SealedLog.{SealedLog}
 use Rattle.vlstore.specs.Handing.{HasLasted}
 use Rattle.vlstore.specs.Knowing.{GoesOn, IsOwnPass, IsOwnTicket, Knows, LeavesPass, LeavesTicket}

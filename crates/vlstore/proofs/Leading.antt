@@ -2,14 +2,14 @@
 -- call leaves.
 use Rattle.std.proofs.Common.{◌≡◌, ℕ, List, [], ◌∷◌, ◌++◌, refl, sym, ap, ◌∙◌, subst}
 use Rattle.std.specs.Prelude.{Option, None, Some}
-use Rattle.vl_core.specs.Lasts.{Lasts}
-use Rattle.vl_layout.specs.Decides.{Answered, Damaged, Decides, Effects, Failed, NoMemory, Otherwise, Outcome}
-use Rattle.vl_layout.specs.LockHistory.{IsLegalEntry, last_from, last_layout, nothing_open}
-use Rattle.vl_layout.specs.Ruling.{Ruling, halted_at}
-use Rattle.vl_layout.specs.declared.file_name.FileName.{FileName}
-use Rattle.vl_layout.specs.declared.layout.Layout.{Layout}
-use Rattle.vl_layout.specs.declared.lock_history.LockEntry.{LockEntry}
-use Rattle.vl_layout.specs.laws.LockHistoryLaws.{last_layout-append, legal-append, none≢some}
+use Rattle.vl_engine_laws.specs.Lasts.{Lasts}
+use Rattle.vl_engine_model.specs.Decides.{Answered, Damaged, Decides, Effects, Failed, NoMemory, Otherwise, Outcome}
+use Rattle.vl_engine_model.specs.LockHistory.{IsLegalEntry, last_from, last_layout, nothing_open}
+use Rattle.vl_engine_model.specs.Ruling.{Ruling, halted_at}
+use Rattle.vl_engine_model.specs.declared.file_name.FileName.{FileName}
+use Rattle.vl_engine_model.specs.declared.layout.Layout.{Layout}
+use Rattle.vl_engine_model.specs.declared.lock_history.LockEntry.{LockEntry}
+use Rattle.vl_engine_model.specs.laws.LockHistoryLaws.{last_layout-append, legal-append, none≢some}
 use Rattle.vl_model.specs.History.{History}
 use Rattle.vl_seglog.specs.declared.sealed.SealedLog.{SealedLog}
 use Rattle.vlstore.specs.Lists.{history_by, layout_by, open_by}

@@ -3,22 +3,22 @@ use Rattle.std.proofs.Common.{◌≡◌, ◌≢◌, ℕ, ◌+◌, List, [], refl
 use Rattle.std.specs.Prelude.{false, Option, None, Some, IsTrue, is_some}
 use Rattle.std.specs.FinMap.{is_sorted}
 use Rattle.std.specs.Option.{option_map}
-use Rattle.vl_layout.specs.LockHistory.{HasOpen, IsLegal, IsLegalEntry, IsOpen, IsOwn, OpenThings, job_in}
-use Rattle.vl_layout.specs.LockHistory.{last_from, nothing_open, segment_in, tickets_in}
-use Rattle.vl_layout.specs.Ruling.{ended}
-use Rattle.vl_layout.specs.Rulings.Begin.{begun}
-use Rattle.vl_layout.specs.Tickets.{free_ticket, has_ticket, tickets_of}
-use Rattle.vl_layout.specs.declared.job.Job.{Job}
-use Rattle.vl_layout.specs.declared.layout.Layout.{Layout}
-use Rattle.vl_layout.specs.declared.lock_history.LockEntry.{LockEntry}
-use Rattle.vl_layout.specs.declared.lock_history.LockStep.{LockStep}
-use Rattle.vl_layout.specs.declared.lock_history.LockStep.TheVariants.{Begun, Changed, Ended, JobEnded, PassEnded, Picked, Planned, Put}
-use Rattle.vl_layout.specs.laws.LockHistoryLaws.{AreRising, last_number-is, last_open, open_rising}
-use Rattle.vl_layout.specs.laws.TicketLaws.{free_ticket-free, live_begun, live_closed, rising_in}
+use Rattle.vl_engine_model.specs.LockHistory.{HasOpen, IsLegal, IsLegalEntry, IsOpen, IsOwn, OpenThings, job_in}
+use Rattle.vl_engine_model.specs.LockHistory.{last_from, nothing_open, segment_in, tickets_in}
+use Rattle.vl_engine_model.specs.Ruling.{ended}
+use Rattle.vl_engine_model.specs.Rulings.Begin.{begun}
+use Rattle.vl_engine_model.specs.Tickets.{free_ticket, has_ticket, tickets_of}
+use Rattle.vl_engine_model.specs.declared.job.Job.{Job}
+use Rattle.vl_engine_model.specs.declared.layout.Layout.{Layout}
+use Rattle.vl_engine_model.specs.declared.lock_history.LockEntry.{LockEntry}
+use Rattle.vl_engine_model.specs.declared.lock_history.LockStep.{LockStep}
+use Rattle.vl_engine_model.specs.declared.lock_history.LockStep.TheVariants.{Begun, Changed, Ended, JobEnded, PassEnded, Picked, Planned, Put}
+use Rattle.vl_engine_model.specs.laws.LockHistoryLaws.{AreRising, last_number-is, last_open, open_rising}
+use Rattle.vl_engine_model.specs.laws.TicketLaws.{free_ticket-free, live_begun, live_closed, rising_in}
 use Rattle.vl_model.specs.History.{last_number}
 use Rattle.vl_model.specs.Keys.{key_cmp}
 use Rattle.vl_model.specs.declared.change.Change.{Change}
-use Rattle.vl_layout.specs.Ruling.{pin_of}
+use Rattle.vl_engine_model.specs.Ruling.{pin_of}
 use Rattle.vlstore.specs.Lists.{history_by, layout_by, open_by, past_of}
 use Rattle.vlstore.specs.declared.locked.Origin.{Origin}
 

@@ -4,14 +4,14 @@ use Rattle.std.proofs.lemmas.Bool.{false≢true}
 use Rattle.std.specs.Option.{option_map}
 use Rattle.std.specs.Prelude.{true, false, Option, None, Some, is_some}
 use Rattle.vl_engine.specs.declared.open.OpenMerge.{OpenMerge}
-use Rattle.vl_layout.specs.LockHistory.{IsOwn, job_after, job_in, last_layout, open_job}
-use Rattle.vl_layout.specs.declared.job.Job.{Job}
-use Rattle.vl_layout.specs.declared.job.OpenJob.{OpenJob}
-use Rattle.vl_layout.specs.declared.layout.Layout.{Layout}
-use Rattle.vl_layout.specs.declared.lock_history.LockEntry.{LockEntry}
-use Rattle.vl_layout.specs.declared.lock_history.LockStep.{LockStep}
-use Rattle.vl_layout.specs.declared.lock_history.LockStep.TheVariants.{Begun, Changed, Ended, JobEnded, PassEnded, Picked, Planned, Put}
-use Rattle.vl_layout.specs.laws.LockHistoryLaws.{last_layout-append, none≢some}
+use Rattle.vl_engine_model.specs.LockHistory.{IsOwn, job_after, job_in, last_layout, open_job}
+use Rattle.vl_engine_model.specs.declared.job.Job.{Job}
+use Rattle.vl_engine_model.specs.declared.job.OpenJob.{OpenJob}
+use Rattle.vl_engine_model.specs.declared.layout.Layout.{Layout}
+use Rattle.vl_engine_model.specs.declared.lock_history.LockEntry.{LockEntry}
+use Rattle.vl_engine_model.specs.declared.lock_history.LockStep.{LockStep}
+use Rattle.vl_engine_model.specs.declared.lock_history.LockStep.TheVariants.{Begun, Changed, Ended, JobEnded, PassEnded, Picked, Planned, Put}
+use Rattle.vl_engine_model.specs.laws.LockHistoryLaws.{last_layout-append, none≢some}
 use Rattle.vlstore.specs.Lists.{layout_by}
 use Rattle.vlstore.specs.Merges.{KeepMerges, MergesBy, lent_in}
 use Rattle.vlstore.specs.declared.locked.Origin.{Origin}

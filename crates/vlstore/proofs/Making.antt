@@ -15,11 +15,11 @@ use Rattle.vl_engine.specs.Installing.{numbers_in}
 use Rattle.vl_engine.specs.Merging.{HasAllMerge, HasMerge}
 use Rattle.vl_engine.specs.declared.fails.InstallFail.{InstallFail}
 use Rattle.vl_engine.specs.declared.fails.InstallFail.TheVariants as fails
-use Rattle.vl_layout.specs.Jobs.{AreDistinct}
-use Rattle.vl_layout.specs.LockHistory.{last_layout, open_job}
-use Rattle.vl_layout.specs.Merging.{needless}
-use Rattle.vl_layout.specs.declared.job.Job as laid_job
-use Rattle.vl_layout.specs.declared.lock_history.LockEntry.{LockEntry}
+use Rattle.vl_engine_model.specs.Jobs.{AreDistinct}
+use Rattle.vl_engine_model.specs.LockHistory.{last_layout, open_job}
+use Rattle.vl_engine_model.specs.Merging.{needless}
+use Rattle.vl_engine_model.specs.declared.job.Job as laid_job
+use Rattle.vl_engine_model.specs.declared.lock_history.LockEntry.{LockEntry}
 use Rattle.vl_model.specs.Entries.{in_order}
 use Rattle.vl_model.specs.Numbers.{has}
 use Rattle.vl_version.specs.declared.base.Base.{Base}

@@ -7,21 +7,21 @@ use Rattle.vl_engine.specs.Merging.{install_outcome}
 use Rattle.vl_engine.specs.Whole.{kept_of}
 use Rattle.vl_engine.specs.declared.fails.InstallFail.{InstallFail}
 use Rattle.vl_engine.specs.declared.fails.InstallFail.TheVariants as fails
-use Rattle.vl_layout.specs.Decides.{Answered, Damaged, Failed, NoMemory, Outcome}
-use Rattle.vl_layout.specs.Jobs.{Made}
-use Rattle.vl_layout.specs.LockHistory.{job_after, open_job}
-use Rattle.vl_layout.specs.Merging.{merged_entries}
-use Rattle.vl_layout.specs.Ruling.{Ruling}
-use Rattle.vl_layout.specs.Rulings.Fresh as fresh
-use Rattle.vl_layout.specs.Rulings.Fresh.{FreshAnswer}
-use Rattle.vl_layout.specs.Rulings.Install.{InstallAnswer, Installed, install_ruling}
-use Rattle.vl_layout.specs.Rulings.Plan.{plan_ruling}
-use Rattle.vl_layout.specs.declared.job.Job.{Job}
-use Rattle.vl_layout.specs.declared.layout.Layout.{Layout}
-use Rattle.vl_layout.specs.declared.lock_history.LockEntry.{LockEntry}
-use Rattle.vl_layout.specs.declared.lock_history.LockStep.{LockStep}
-use Rattle.vl_layout.specs.declared.lock_history.LockStep.TheVariants.{JobEnded}
-use Rattle.vl_layout.specs.laws.LockHistoryLaws.{none≢some}
+use Rattle.vl_engine_model.specs.Decides.{Answered, Damaged, Failed, NoMemory, Outcome}
+use Rattle.vl_engine_model.specs.Jobs.{Made}
+use Rattle.vl_engine_model.specs.LockHistory.{job_after, open_job}
+use Rattle.vl_engine_model.specs.Merging.{merged_entries}
+use Rattle.vl_engine_model.specs.Ruling.{Ruling}
+use Rattle.vl_engine_model.specs.Rulings.Fresh as fresh
+use Rattle.vl_engine_model.specs.Rulings.Fresh.{FreshAnswer}
+use Rattle.vl_engine_model.specs.Rulings.Install.{InstallAnswer, Installed, install_ruling}
+use Rattle.vl_engine_model.specs.Rulings.Plan.{plan_ruling}
+use Rattle.vl_engine_model.specs.declared.job.Job.{Job}
+use Rattle.vl_engine_model.specs.declared.layout.Layout.{Layout}
+use Rattle.vl_engine_model.specs.declared.lock_history.LockEntry.{LockEntry}
+use Rattle.vl_engine_model.specs.declared.lock_history.LockStep.{LockStep}
+use Rattle.vl_engine_model.specs.declared.lock_history.LockStep.TheVariants.{JobEnded}
+use Rattle.vl_engine_model.specs.laws.LockHistoryLaws.{none≢some}
 use Rattle.vl_model.specs.History.{History}
 use Rattle.vl_turn.specs.Entries.{with_entry}
 use Rattle.vlstore.specs.Entries.{abandon_entry, fresh_entry, install_entry, plan_entry}

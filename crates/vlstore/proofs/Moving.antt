@@ -3,22 +3,22 @@ use Rattle.std.proofs.Common.{◌≡◌, ℕ, zero, suc, List, [], ◌∷◌, �
 use Rattle.std.specs.Global.{Global}
 use Rattle.std.specs.Prelude.{Bool, true, false, ◌+◌, Vec, nat_le, if◌then◌else◌, Option, None, Some, Result, Ok, Err, is_some}
 use Rattle.std.specs.Option.{option_map}
-use Rattle.vl_core.specs.Lasts.{Lasts}
+use Rattle.vl_engine_laws.specs.Lasts.{Lasts}
 use Rattle.vl_engine.specs.Relocating.{MoveNotes, NotesMoves}
 use Rattle.vl_engine.specs.declared.fails.MoveFail.{MoveFail}
 use Rattle.vl_engine.specs.declared.open.OpenMerge.{OpenMerge}
-use Rattle.vl_layout.specs.Decides.{Answered, Damaged, Decides, Failed, NoMemory, Outcome, as_before, no_effects}
-use Rattle.vl_layout.specs.LockHistory.{last_layout}
-use Rattle.vl_layout.specs.Relocation.{Candidate, Pass, moved_of}
-use Rattle.vl_layout.specs.Ruling.{Ruling, has_no_version}
-use Rattle.vl_layout.specs.Rulings.Relocate as relocate
-use Rattle.vl_layout.specs.Rulings.Relocate.{MoveAnswer, relocate_of, relocate_ruling, relocate_unless, with_moves}
-use Rattle.vl_layout.specs.Sources.{sources}
-use Rattle.vl_layout.specs.declared.file_name.FileName.{FileName}
-use Rattle.vl_layout.specs.declared.job.OpenJob.{OpenJob}
-use Rattle.vl_layout.specs.declared.layout.Layout.{Layout}
-use Rattle.vl_layout.specs.declared.lock_history.LockEntry.{LockEntry}
-use Rattle.vl_layout.specs.declared.lock_history.LockStep.TheVariants.{Changed}
+use Rattle.vl_engine_model.specs.Decides.{Answered, Damaged, Decides, Failed, NoMemory, Outcome, as_before, no_effects}
+use Rattle.vl_engine_model.specs.LockHistory.{last_layout}
+use Rattle.vl_engine_model.specs.Relocation.{Candidate, Pass, moved_of}
+use Rattle.vl_engine_model.specs.Ruling.{Ruling, has_no_version}
+use Rattle.vl_engine_model.specs.Rulings.Relocate as relocate
+use Rattle.vl_engine_model.specs.Rulings.Relocate.{MoveAnswer, relocate_of, relocate_ruling, relocate_unless, with_moves}
+use Rattle.vl_engine_model.specs.Sources.{sources}
+use Rattle.vl_engine_model.specs.declared.file_name.FileName.{FileName}
+use Rattle.vl_engine_model.specs.declared.job.OpenJob.{OpenJob}
+use Rattle.vl_engine_model.specs.declared.layout.Layout.{Layout}
+use Rattle.vl_engine_model.specs.declared.lock_history.LockEntry.{LockEntry}
+use Rattle.vl_engine_model.specs.declared.lock_history.LockStep.TheVariants.{Changed}
 use Rattle.vl_model.specs.Conflicts.{Named}
 use Rattle.vl_model.specs.Frames.{frame_length}
 use Rattle.vl_model.specs.History.{History, last_number}

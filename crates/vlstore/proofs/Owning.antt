@@ -3,13 +3,13 @@ use Rattle.std.proofs.Common.{◌≡◌, ◌≢◌, ℕ, List, [], ◌∷◌, re
 use Rattle.std.proofs.lemmas.Bool.{false≢true}
 use Rattle.std.proofs.lemmas.Bool.Decides.{nat_tests}
 use Rattle.std.specs.Prelude.{Bool, true, false, cond, ◌==◌, Option, None, Some}
-use Rattle.vl_layout.specs.LockHistory.{IsOwn, entries_by, job_after, last_layout, open_job}
-use Rattle.vl_layout.specs.declared.job.Job.{Job}
-use Rattle.vl_layout.specs.declared.layout.Layout.{Layout}
-use Rattle.vl_layout.specs.declared.lock_history.LockEntry.{LockEntry}
-use Rattle.vl_layout.specs.declared.lock_history.LockStep.{LockStep}
-use Rattle.vl_layout.specs.declared.lock_history.LockStep.TheVariants.{Begun, Changed, Ended, JobEnded, PassEnded, Picked, Planned, Put}
-use Rattle.vl_layout.specs.laws.LockHistoryLaws.{none≢some}
+use Rattle.vl_engine_model.specs.LockHistory.{IsOwn, entries_by, job_after, last_layout, open_job}
+use Rattle.vl_engine_model.specs.declared.job.Job.{Job}
+use Rattle.vl_engine_model.specs.declared.layout.Layout.{Layout}
+use Rattle.vl_engine_model.specs.declared.lock_history.LockEntry.{LockEntry}
+use Rattle.vl_engine_model.specs.declared.lock_history.LockStep.{LockStep}
+use Rattle.vl_engine_model.specs.declared.lock_history.LockStep.TheVariants.{Begun, Changed, Ended, JobEnded, PassEnded, Picked, Planned, Put}
+use Rattle.vl_engine_model.specs.laws.LockHistoryLaws.{none≢some}
 use Rattle.vlstore.specs.Merges.{KeepMerges, KeepsMerge, lent_in}
 
 -- the merge is open, and the same files are lent to it

@@ -4,34 +4,32 @@ use Rattle.std.specs.List.{AllByRecursion, slice_get}
 use Rattle.std.proofs.Common.{subst, sym, ◌∙◌, ⊎_elim, arith}
 use Rattle.std.proofs.lemmas.List.Elements.{All-contains, All-from_recursion, Contains-get_or}
 use Rattle.std.proofs.lemmas.Option.{get_or_from_slice_get, slice_get_within}
-use Rattle.vl_block.specs.Bytes.{table_bytes}
+use Rattle.vl_table.specs.body.Bytes.{table_bytes}
 use Rattle.vl_collect.specs.Faults as found
-use Rattle.vl_collect.specs.Faults.{Counts, FailsPassing, IsOfLog, IsOfLooks, IsTheirs, LacksMemory, MayWhere, of_log, of_sources}
+use Rattle.vl_collect.specs.Faults.{Counts, FailsPassing, IsOfLog, IsOfLooks, IsTheirs, LacksMemory, MayWhere}
 use Rattle.vl_collect.specs.Passing.{IsWholeFrom, TornBehind}
-use Rattle.vl_collect.specs.declared.fault.PassFault.TheVariants as faults
-use Rattle.vl_collect.specs.declared.fault.PassFault.{PassFault}
+use Rattle.vl_disk.specs.declared.read_fault.ReadFault.TheVariants as faults
+use Rattle.vl_disk.specs.declared.read_fault.ReadFault.{ReadFault}
 use Rattle.vl_collect.specs.declared.pass.Pass.{Pass as ThePass}
 use Rattle.vl_collect.specs.laws.StandingLaws.{given}
-use Rattle.vl_core.specs.MoveFacts.{AreThere}
+use Rattle.vl_engine_laws.specs.MoveFacts.{AreThere}
 use Rattle.vl_disk.specs.Faults.{HasCause, Rose}
 use Rattle.vl_disk.specs.declared.name.Name.{Name as FileName}
 use Rattle.vl_engine.specs.Collecting.{GoesOver}
-use Rattle.vl_layout.specs.Relocation.{Candidate, Pass, next_batch}
-use Rattle.vl_layout.specs.Shown.{IsThere}
-use Rattle.vl_layout.specs.Shows.{AreUpTo}
+use Rattle.vl_engine_model.specs.Relocation.{Candidate, Pass, next_batch}
+use Rattle.vl_engine_model.specs.Shown.{IsThere}
+use Rattle.vl_engine_model.specs.Shows.{AreUpTo}
 use Rattle.vl_model.specs.Cursors.{HasRisen, IsCounted}
 use Rattle.vl_model.specs.declared.entry.Entry.{Entry}
 use Rattle.vl_seglog.specs.Answers.{Failed as LogFailed}
 use Rattle.vl_seglog.specs.Stored.{stored_at}
-use Rattle.vl_seglog.specs.declared.fault.LogFault.TheVariants as log
-use Rattle.vl_seglog.specs.declared.fault.LogFault.{LogFault}
+use Rattle.vl_disk.specs.declared.read_fault.ReadFault.TheVariants as log
 use Rattle.vl_seglog.specs.declared.sealed.SealedLog.{SealedLog}
 use Rattle.vl_table.specs.CursorParts.{MayFailOn, is_disk_fault}
 use Rattle.vl_table.specs.OfTables.{AreOf}
 use Rattle.vl_table.specs.Tables.{IsOf, number_of, shape_of}
 use Rattle.vl_table.specs.declared.block_reader.BlockReader.{BlockReader}
-use Rattle.vl_table.specs.declared.fault.TableFault.TheVariants as table
-use Rattle.vl_table.specs.declared.fault.TableFault.{TableFault}
+use Rattle.vl_disk.specs.declared.read_fault.ReadFault.TheVariants as table
 use Rattle.vl_table.specs.declared.table.Table.{Table}
 use Rattle.vl_table.specs.laws.TrueBlocks.{no_bad_block}
 use Rattle.vl_version.specs.Bases.{Fits}
@@ -110,46 +108,46 @@ none_risen : (before now : ℕ) → before ≡ 0 → now ≡ 0 → HasRisen befo
 none_risen before now was is risen = none_rose before now was is risen.rose
 
 -- the only fault that there may be
-abbrev pub IsMemory : PassFault → Type 0
+abbrev pub IsMemory : ReadFault → Type 0
 IsMemory fault = fault ≡ faults.NoMemory
 
 module _ {H R : Type 0} (bytes : H → Option (List ℕ)) (pass : ThePass (Base H R) H) (p : Pass) (goes : GoesOver bytes pass p)
     (whole : IsWholeFrom bytes pass.log pass.at.place) (looks : BlockReader R) (fits : Fits bytes pass.base.version looks)
     (counts : Counts) (sources_were : counts.sources_before ≡ 0) (sources_are : counts.sources_after ≡ 0)
     (files_were : counts.files_before ≡ 0) (files_are : counts.files_after ≡ 0) where
-  abbrev may : TableFault → Type 0
+  abbrev may : ReadFault → Type 0
   may = MayWhere (Fits bytes pass.base.version looks) (MayFailOn bytes (tables_in pass.base.version))
 
   abbrev bad : ℕ → Type 0
   bad = TornBehind bytes pass.log pass.at.place
 
-  of_their_own : (fault : PassFault)
-      → IsTheirs (λ (f : TableFault). is_disk_fault f) may counts.sources_before counts.sources_after fault → IsMemory fault
+  of_their_own : (fault : ReadFault)
+      → IsTheirs (λ (f : ReadFault). is_disk_fault f) may counts.sources_before counts.sources_after fault → IsMemory fault
   of_their_own fault theirs = of theirs.told theirs.is (theirs.had fits) theirs.counted
     where
-      of : (told : TableFault) → fault ≡ of_sources told → MayFailOn bytes (tables_in pass.base.version) told
+      of : (told : ReadFault) → fault ≡ told → MayFailOn bytes (tables_in pass.base.version) told
           → IsCounted (is_disk_fault told) counts.sources_before counts.sources_after → IsMemory fault
       of table.NoMemory is had counted = is
       of (table.Disk name) is had counted = absurd (none_risen counts.sources_before counts.sources_after sources_were sources_are counted)
       of (table.Damaged name place) is had counted =
           absurd (none_bad bytes (tables_in pass.base.version) goes.base.had.tabled goes.base.had.tables name place had)
 
-  of_the_log : (fault : PassFault) → IsOfLog pass.log.number bad counts fault → IsMemory fault
+  of_the_log : (fault : ReadFault) → IsOfLog pass.log.number bad counts fault → IsMemory fault
   of_the_log fault its = of its.told its.is its.damage its.counted
     where
-      of : (told : LogFault) → fault ≡ of_log told → found.IsThere bad told
+      of : (told : ReadFault) → fault ≡ told → found.IsThere bad told
           → HasCause counts.files_before counts.files_after (LogFailed (found.failing told)) → IsMemory fault
       of log.NoMemory is there cause = is
       of (log.Disk name) is there cause = absurd (none_rose counts.files_before counts.files_after files_were files_are (cause.rose tt))
       of (log.Damaged name place) is there cause =
           absurd (whole_not_torn bytes pass.log pass.at.place place goes.told goes.tells whole there)
 
-  pub only_memory : (fault : PassFault)
-      → FailsPassing (λ (f : TableFault). is_disk_fault f) may pass.log.number bad counts fault → IsMemory fault
+  pub only_memory : (fault : ReadFault)
+      → FailsPassing (λ (f : ReadFault). is_disk_fault f) may pass.log.number bad counts fault → IsMemory fault
   only_memory fault fails = ⊎_elim
-      (λ (of : IsOfLooks (λ (f : TableFault). is_disk_fault f) may counts fault). ⊎_elim
+      (λ (of : IsOfLooks (λ (f : ReadFault). is_disk_fault f) may counts fault). ⊎_elim
       (λ (lacks : LacksMemory counts.sources_before counts.sources_after fault). lacks.is)
-      (λ (theirs : IsTheirs (λ (f : TableFault). is_disk_fault f) may counts.sources_before counts.sources_after fault).
+      (λ (theirs : IsTheirs (λ (f : ReadFault). is_disk_fault f) may counts.sources_before counts.sources_after fault).
       of_their_own fault theirs)
       of.fails)
       (λ (of : IsOfLog pass.log.number bad counts fault). of_the_log fault of)

@@ -4,22 +4,22 @@ use Rattle.std.specs.Prelude.{Bool, true, false, is_ok, is_some, Option, None, S
 use Rattle.std.specs.Option.{option_map}
 use Rattle.vl_collect.specs.declared.pass.Pass.{Pass}
 use Rattle.vl_engine.specs.Collecting.{Collects, IsPicked, Passes, pick_outcome}
-use Rattle.vl_core.specs.declared.kept.Core.{Core}
+use Rattle.vl_engine_laws.specs.declared.kept.Core.{Core}
 use Rattle.vl_engine.specs.declared.fails.PickFail.{PickFail}
 use Rattle.vl_engine.specs.declared.fails.PickFail.TheVariants as fails
 use Rattle.vl_engine.specs.declared.open.Collecting.{Collecting}
-use Rattle.vl_layout.specs.Decides.{Decides, as_before, no_effects}
-use Rattle.vl_layout.specs.LockHistory.{open_pass, pass_after, segment_in}
-use Rattle.vl_layout.specs.Relocation as layout
-use Rattle.vl_layout.specs.Ruling.{Ruling}
-use Rattle.vl_layout.specs.Rulings.Pick.{PickAnswer, Picked, pick_best, pick_ruling, pick_unless}
-use Rattle.vl_layout.specs.Garbage.{best}
-use Rattle.vl_layout.specs.declared.job.OpenPass.{OpenPass}
-use Rattle.vl_layout.specs.declared.layout.Layout.{Layout}
-use Rattle.vl_layout.specs.declared.lock_history.LockEntry.{LockEntry}
-use Rattle.vl_layout.specs.declared.lock_history.LockStep.TheVariants as steps
-use Rattle.vl_layout.specs.declared.segment.SegmentStat.{SegmentStat}
-use Rattle.vl_layout.specs.laws.LockHistoryLaws.{last_layout-append}
+use Rattle.vl_engine_model.specs.Decides.{Decides, as_before, no_effects}
+use Rattle.vl_engine_model.specs.LockHistory.{open_pass, pass_after, segment_in}
+use Rattle.vl_engine_model.specs.Relocation as layout
+use Rattle.vl_engine_model.specs.Ruling.{Ruling}
+use Rattle.vl_engine_model.specs.Rulings.Pick.{PickAnswer, Picked, pick_best, pick_ruling, pick_unless}
+use Rattle.vl_engine_model.specs.Garbage.{best}
+use Rattle.vl_engine_model.specs.declared.job.OpenPass.{OpenPass}
+use Rattle.vl_engine_model.specs.declared.layout.Layout.{Layout}
+use Rattle.vl_engine_model.specs.declared.lock_history.LockEntry.{LockEntry}
+use Rattle.vl_engine_model.specs.declared.lock_history.LockStep.TheVariants as steps
+use Rattle.vl_engine_model.specs.declared.segment.SegmentStat.{SegmentStat}
+use Rattle.vl_engine_model.specs.laws.LockHistoryLaws.{last_layout-append}
 use Rattle.vl_model.specs.History.{History}
 use Rattle.std.specs.Prelude.{◌==◌, ◌||◌, nat_lt, if◌then◌else◌}
 use Rattle.vlstore.specs.Entries.{Done, entry_by, entry_of, pick_done}

@@ -13,15 +13,15 @@ use Rattle.vl_disk.specs.declared.writer.Writer.{Ghosts as Writers}
 use Rattle.vl_engine.specs.Installing.{numbers_in}
 use Rattle.vl_engine.specs.Merging.{HasMerge, OpensMerge, plan_outcome}
 use Rattle.vl_engine.specs.declared.open.OpenMerge.{OpenMerge}
-use Rattle.vl_layout.specs.Jobs.{AreDistinct}
-use Rattle.vl_layout.specs.LockHistory.{last_layout, open_job}
-use Rattle.vl_layout.specs.Rulings.Plan.{with_job}
-use Rattle.vl_layout.specs.declared.job.Job.{Job}
-use Rattle.vl_layout.specs.declared.job.Target.TheVariants.{InPlace}
-use Rattle.vl_layout.specs.declared.layout.Layout.{Layout}
-use Rattle.vl_layout.specs.declared.lock_history.LockEntry.{LockEntry}
-use Rattle.vl_layout.specs.declared.lock_history.LockStep.TheVariants as steps
-use Rattle.vl_layout.specs.laws.LockHistoryLaws.{last_layout-append, none≢some}
+use Rattle.vl_engine_model.specs.Jobs.{AreDistinct}
+use Rattle.vl_engine_model.specs.LockHistory.{last_layout, open_job}
+use Rattle.vl_engine_model.specs.Rulings.Plan.{with_job}
+use Rattle.vl_engine_model.specs.declared.job.Job.{Job}
+use Rattle.vl_engine_model.specs.declared.job.Target.TheVariants.{InPlace}
+use Rattle.vl_engine_model.specs.declared.layout.Layout.{Layout}
+use Rattle.vl_engine_model.specs.declared.lock_history.LockEntry.{LockEntry}
+use Rattle.vl_engine_model.specs.declared.lock_history.LockStep.TheVariants as steps
+use Rattle.vl_engine_model.specs.laws.LockHistoryLaws.{last_layout-append, none≢some}
 use Rattle.vl_model.specs.Numbers.{has}
 use Rattle.vlstore.specs.Entries.{Done, entry_by, entry_of, plan_done, planned_in}
 use Rattle.vlstore.specs.Handing.{IsUnderWayIn}

@@ -3,12 +3,12 @@ use Rattle.std.proofs.Common.{◌≡◌, ℕ, List, [], ◌∷◌, ◌++◌, ref
 use Rattle.std.specs.Prelude.{Bool, if◌then◌else◌, Option, None, Some, is_some}
 use Rattle.atomic_table.specs.Seated.{TableId}
 use Rattle.atomic_table.specs.declared.shared.Seat.{Seat}
-use Rattle.vl_layout.specs.Decides.{Decides, Effects, Failed, Otherwise, Outcome}
-use Rattle.vl_layout.specs.LockHistory.{IsLegal, entries_by, last_layout}
-use Rattle.vl_layout.specs.Ruling.{Ruling}
-use Rattle.vl_layout.specs.declared.file_name.FileName.{FileName}
-use Rattle.vl_layout.specs.declared.layout.Layout.{Layout}
-use Rattle.vl_layout.specs.declared.lock_history.LockEntry.{LockEntry}
+use Rattle.vl_engine_model.specs.Decides.{Decides, Effects, Failed, Otherwise, Outcome}
+use Rattle.vl_engine_model.specs.LockHistory.{IsLegal, entries_by, last_layout}
+use Rattle.vl_engine_model.specs.Ruling.{Ruling}
+use Rattle.vl_engine_model.specs.declared.file_name.FileName.{FileName}
+use Rattle.vl_engine_model.specs.declared.layout.Layout.{Layout}
+use Rattle.vl_engine_model.specs.declared.lock_history.LockEntry.{LockEntry}
 use Rattle.vl_model.specs.History.{History}
 use Rattle.vlstore.specs.Entries.{Done, entry_of}
 use Rattle.vlstore.specs.Knowing.{GoesOn, IsSession, Knows, Looked, Stepped, own_in, session_in}

@@ -5,12 +5,12 @@ use Rattle.std.specs.Prelude.{None, if◌then◌else◌, nat_le}
 use Rattle.vl_drive.specs.Driven as drive
 use Rattle.vl_drive.specs.Knowing as knowing
 use Rattle.vl_drive.specs.Stores as stores
-use Rattle.vl_layout.specs.LockHistory.{entries_by}
-use Rattle.vl_layout.specs.Ruling.{leaving}
-use Rattle.vl_layout.specs.Rulings.Begin.{BeginAnswer, Begun, TooMany, begin_ruling, begun}
-use Rattle.vl_layout.specs.Tickets.{free_ticket, tickets_of}
-use Rattle.vl_layout.specs.declared.layout.Layout.{Layout}
-use Rattle.vl_layout.specs.declared.lock_history.LockEntry.{LockEntry}
+use Rattle.vl_engine_model.specs.LockHistory.{entries_by}
+use Rattle.vl_engine_model.specs.Ruling.{leaving}
+use Rattle.vl_engine_model.specs.Rulings.Begin.{BeginAnswer, Begun, TooMany, begin_ruling, begun}
+use Rattle.vl_engine_model.specs.Tickets.{free_ticket, tickets_of}
+use Rattle.vl_engine_model.specs.declared.layout.Layout.{Layout}
+use Rattle.vl_engine_model.specs.declared.lock_history.LockEntry.{LockEntry}
 use Rattle.vl_model.specs.History.{History, last_number}
 use Rattle.vl_model.specs.Limits.{max_live}
 use Rattle.vl_turn.specs.Entries.{AreNumbered}

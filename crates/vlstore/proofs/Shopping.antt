@@ -5,7 +5,7 @@ use Rattle.std.proofs.lemmas.List.Elements.{filter-append}
 use Rattle.std.specs.FinMap.{empty}
 use Rattle.std.specs.Prelude.{Option, None, Some, Result, Ok, Err, IfOk, ◌==◌, if◌then◌else◌, nat_le, zero, suc}
 use Rattle.std.specs.List.{AllByRecursion}
-use Rattle.vl_core.specs.Represents.{file_of}
+use Rattle.vl_engine_laws.specs.Represents.{file_of}
 use Rattle.vl_drive.specs.Entries as drive_entries
 use Rattle.vl_drive.specs.Knowing as drive
 use Rattle.vl_drive.specs.Steps.{is_aside}
@@ -24,32 +24,32 @@ use Rattle.vl_engine.specs.declared.fails.StepFail.TheVariants as step_fails
 use Rattle.vl_engine.specs.declared.fails.SweepFail.{SweepFail}
 use Rattle.vl_engine.specs.declared.fails.SweepFail.TheVariants as sweep_fails
 use Rattle.vl_engine.specs.declared.txn.Txn.{Txn}
-use Rattle.vl_layout.specs.Decides.{Answered, Damaged, Failed, NoMemory, Outcome}
-use Rattle.vl_layout.specs.LockHistory.{IsLegal, entries_by, open_pass, pass_after}
-use Rattle.vl_layout.specs.Ruling.{Ruling, StepAnswer, has_no_number, has_no_version, leaving}
-use Rattle.vl_layout.specs.Ruling as ruling
-use Rattle.vl_layout.specs.Rulings.Begin as begin
-use Rattle.vl_layout.specs.Rulings.Begin.{BeginAnswer, begin_ruling}
-use Rattle.vl_layout.specs.Rulings.Commit as commit
-use Rattle.vl_layout.specs.Rulings.Commit.{CommitAnswer, Transaction, commit_checked, commit_ended, commit_frame, commit_ruling, commit_unless, committed}
-use Rattle.vl_layout.specs.Relocation.{Candidate, Pass, moved_of}
-use Rattle.vl_layout.specs.Rulings.EndPass.{end_pass_ruling, without_pass}
-use Rattle.vl_layout.specs.Rulings.Flush.{flush_of, flush_ruling, flush_unless, flushed}
-use Rattle.vl_layout.specs.Rulings.Pick as pick
-use Rattle.vl_layout.specs.Rulings.Pick.{PickAnswer, pick_ruling}
-use Rattle.vl_layout.specs.Rulings.Relocate as relocate
-use Rattle.vl_layout.specs.Rulings.Relocate.{MoveAnswer, relocate_of, relocate_ruling, relocate_unless, relocated}
-use Rattle.vl_layout.specs.Rulings.Rotate.{rotate_of, rotate_ruling, rotate_unless, rotated}
-use Rattle.vl_layout.specs.Rulings.Sweep as sweep
-use Rattle.vl_layout.specs.Rulings.Sweep.{SweepAnswer, sweep_lost, sweep_ruling, sweep_unless}
-use Rattle.vl_layout.specs.Sources.{sources}
-use Rattle.vl_layout.specs.declared.file_name.FileName.{FileName}
-use Rattle.vl_layout.specs.declared.layout.Layout.{Layout}
-use Rattle.vl_layout.specs.declared.lock_history.LockEntry.{LockEntry}
-use Rattle.vl_layout.specs.declared.lock_history.LockStep.{LockStep}
-use Rattle.vl_layout.specs.declared.lock_history.LockStep.TheVariants as steps
-use Rattle.vl_layout.specs.declared.lock_history.LockStep.TheVariants.{Changed}
-use Rattle.vl_layout.specs.declared.segment.Segment.{Segment}
+use Rattle.vl_engine_model.specs.Decides.{Answered, Damaged, Failed, NoMemory, Outcome}
+use Rattle.vl_engine_model.specs.LockHistory.{IsLegal, entries_by, open_pass, pass_after}
+use Rattle.vl_engine_model.specs.Ruling.{Ruling, StepAnswer, has_no_number, has_no_version, leaving}
+use Rattle.vl_engine_model.specs.Ruling as ruling
+use Rattle.vl_engine_model.specs.Rulings.Begin as begin
+use Rattle.vl_engine_model.specs.Rulings.Begin.{BeginAnswer, begin_ruling}
+use Rattle.vl_engine_model.specs.Rulings.Commit as commit
+use Rattle.vl_engine_model.specs.Rulings.Commit.{CommitAnswer, Transaction, commit_checked, commit_ended, commit_frame, commit_ruling, commit_unless, committed}
+use Rattle.vl_engine_model.specs.Relocation.{Candidate, Pass, moved_of}
+use Rattle.vl_engine_model.specs.Rulings.EndPass.{end_pass_ruling, without_pass}
+use Rattle.vl_engine_model.specs.Rulings.Flush.{flush_of, flush_ruling, flush_unless, flushed}
+use Rattle.vl_engine_model.specs.Rulings.Pick as pick
+use Rattle.vl_engine_model.specs.Rulings.Pick.{PickAnswer, pick_ruling}
+use Rattle.vl_engine_model.specs.Rulings.Relocate as relocate
+use Rattle.vl_engine_model.specs.Rulings.Relocate.{MoveAnswer, relocate_of, relocate_ruling, relocate_unless, relocated}
+use Rattle.vl_engine_model.specs.Rulings.Rotate.{rotate_of, rotate_ruling, rotate_unless, rotated}
+use Rattle.vl_engine_model.specs.Rulings.Sweep as sweep
+use Rattle.vl_engine_model.specs.Rulings.Sweep.{SweepAnswer, sweep_lost, sweep_ruling, sweep_unless}
+use Rattle.vl_engine_model.specs.Sources.{sources}
+use Rattle.vl_engine_model.specs.declared.file_name.FileName.{FileName}
+use Rattle.vl_engine_model.specs.declared.layout.Layout.{Layout}
+use Rattle.vl_engine_model.specs.declared.lock_history.LockEntry.{LockEntry}
+use Rattle.vl_engine_model.specs.declared.lock_history.LockStep.{LockStep}
+use Rattle.vl_engine_model.specs.declared.lock_history.LockStep.TheVariants as steps
+use Rattle.vl_engine_model.specs.declared.lock_history.LockStep.TheVariants.{Changed}
+use Rattle.vl_engine_model.specs.declared.segment.Segment.{Segment}
 use Rattle.vl_model.specs.Conflicts.{Named, first_conflict}
 use Rattle.vl_model.specs.Frames.{frame_length}
 use Rattle.vl_model.specs.History.{History, last_number}

@@ -3,28 +3,28 @@ use Rattle.std.proofs.Common.{◌≡◌, ◌≢◌, ℕ, ◌+◌, List, [], ◌�
 use Rattle.std.proofs.lemmas.Bool.{false≢true}
 use Rattle.std.specs.Prelude.{Bool, true, false, ◌==◌, nat_le, if◌then◌else◌, Option, None, Some, IsTrue}
 use Rattle.std.specs.FinMap.{is_sorted}
-use Rattle.vl_core.specs.Lasts.{Lasts}
-use Rattle.vl_core.specs.laws.Lasting.{flush_lasts, lasts_halted, lasts_rotated, lasts_same}
-use Rattle.vl_layout.specs.Decides.{Answered, as_before}
-use Rattle.vl_layout.specs.LockHistory.{IsOpen, put_after}
-use Rattle.vl_layout.specs.Ruling.{Exhausted, Ruling, StepAnswer}
-use Rattle.vl_layout.specs.Ruling.{ended, halted_at, has_no_number, has_no_version, leaving}
-use Rattle.vl_layout.specs.Rulings.Begin.{BeginAnswer, begin_ruling, begun}
-use Rattle.vl_layout.specs.Rulings.Commit as commit
-use Rattle.vl_layout.specs.Rulings.Commit.{CommitAnswer, Transaction, commit_checked}
-use Rattle.vl_layout.specs.Rulings.Commit.{commit_ended, commit_frame, commit_lost, commit_ruling}
-use Rattle.vl_layout.specs.Rulings.Commit.{commit_running, commit_unless, committed}
-use Rattle.vl_layout.specs.Rulings.Flush.{flush_of, flush_ruling, flush_unless, flushed}
-use Rattle.vl_layout.specs.Rulings.Rotate.{rotate_of, rotate_ruling, rotate_unless, rotated}
-use Rattle.vl_layout.specs.Sources.{oldest}
-use Rattle.vl_layout.specs.Tickets.{free_ticket, tickets_of}
-use Rattle.vl_layout.specs.declared.file_name.FileName.{FileName}
-use Rattle.vl_layout.specs.declared.layout.Layout.{Layout}
-use Rattle.vl_layout.specs.declared.lock_history.LockEntry.{LockEntry}
-use Rattle.vl_layout.specs.declared.lock_history.LockStep.{LockStep}
-use Rattle.vl_layout.specs.declared.lock_history.LockStep.TheVariants.{Begun, Changed, Ended}
-use Rattle.vl_layout.specs.declared.segment.Segment.{Segment}
-use Rattle.vl_layout.specs.laws.LockHistoryLaws.{history_of-put, history_of-same}
+use Rattle.vl_engine_laws.specs.Lasts.{Lasts}
+use Rattle.vl_engine_laws.specs.laws.Lasting.{flush_lasts, lasts_halted, lasts_rotated, lasts_same}
+use Rattle.vl_engine_model.specs.Decides.{Answered, as_before}
+use Rattle.vl_engine_model.specs.LockHistory.{IsOpen, put_after}
+use Rattle.vl_engine_model.specs.Ruling.{Exhausted, Ruling, StepAnswer}
+use Rattle.vl_engine_model.specs.Ruling.{ended, halted_at, has_no_number, has_no_version, leaving}
+use Rattle.vl_engine_model.specs.Rulings.Begin.{BeginAnswer, begin_ruling, begun}
+use Rattle.vl_engine_model.specs.Rulings.Commit as commit
+use Rattle.vl_engine_model.specs.Rulings.Commit.{CommitAnswer, Transaction, commit_checked}
+use Rattle.vl_engine_model.specs.Rulings.Commit.{commit_ended, commit_frame, commit_lost, commit_ruling}
+use Rattle.vl_engine_model.specs.Rulings.Commit.{commit_running, commit_unless, committed}
+use Rattle.vl_engine_model.specs.Rulings.Flush.{flush_of, flush_ruling, flush_unless, flushed}
+use Rattle.vl_engine_model.specs.Rulings.Rotate.{rotate_of, rotate_ruling, rotate_unless, rotated}
+use Rattle.vl_engine_model.specs.Sources.{oldest}
+use Rattle.vl_engine_model.specs.Tickets.{free_ticket, tickets_of}
+use Rattle.vl_engine_model.specs.declared.file_name.FileName.{FileName}
+use Rattle.vl_engine_model.specs.declared.layout.Layout.{Layout}
+use Rattle.vl_engine_model.specs.declared.lock_history.LockEntry.{LockEntry}
+use Rattle.vl_engine_model.specs.declared.lock_history.LockStep.{LockStep}
+use Rattle.vl_engine_model.specs.declared.lock_history.LockStep.TheVariants.{Begun, Changed, Ended}
+use Rattle.vl_engine_model.specs.declared.segment.Segment.{Segment}
+use Rattle.vl_engine_model.specs.laws.LockHistoryLaws.{history_of-put, history_of-same}
 use Rattle.vl_model.specs.Conflicts.{Named, first_conflict}
 use Rattle.vl_model.specs.Frames.{frame_length}
 use Rattle.vl_model.specs.History.{History, last_number}

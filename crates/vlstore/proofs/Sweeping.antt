@@ -3,17 +3,17 @@ use Rattle.std.proofs.Common.{◌≡◌, ℕ, zero, suc, List, [], ◌∷◌, le
 use Rattle.std.specs.Prelude.{not, Option, None, Some}
 use Rattle.std.specs.List.{filter, list_any}
 use Rattle.std.specs.Option.{option_map}
-use Rattle.vl_core.specs.laws.Lasting.{lasts_same}
-use Rattle.vl_layout.specs.Decides.{Answered, Outcome}
-use Rattle.vl_layout.specs.Ruling.{Ruling, halted_at}
-use Rattle.vl_layout.specs.Rulings.Sweep as sweep
-use Rattle.vl_layout.specs.Rulings.Sweep.{SweepAnswer, is_same, sweep_lost, sweep_ruling, sweep_unless, swept, without_files}
-use Rattle.vl_layout.specs.declared.file_name.FileName.{FileName}
-use Rattle.vl_layout.specs.declared.file_name.Retired.{Retired}
-use Rattle.vl_layout.specs.declared.job.OpenJob.{OpenJob}
-use Rattle.vl_layout.specs.declared.layout.Layout.{Layout}
-use Rattle.vl_layout.specs.declared.lock_history.LockEntry.{LockEntry}
-use Rattle.vl_layout.specs.declared.lock_history.LockStep.TheVariants.{Changed}
+use Rattle.vl_engine_laws.specs.laws.Lasting.{lasts_same}
+use Rattle.vl_engine_model.specs.Decides.{Answered, Outcome}
+use Rattle.vl_engine_model.specs.Ruling.{Ruling, halted_at}
+use Rattle.vl_engine_model.specs.Rulings.Sweep as sweep
+use Rattle.vl_engine_model.specs.Rulings.Sweep.{SweepAnswer, is_same, sweep_lost, sweep_ruling, sweep_unless, swept, without_files}
+use Rattle.vl_engine_model.specs.declared.file_name.FileName.{FileName}
+use Rattle.vl_engine_model.specs.declared.file_name.Retired.{Retired}
+use Rattle.vl_engine_model.specs.declared.job.OpenJob.{OpenJob}
+use Rattle.vl_engine_model.specs.declared.layout.Layout.{Layout}
+use Rattle.vl_engine_model.specs.declared.lock_history.LockEntry.{LockEntry}
+use Rattle.vl_engine_model.specs.declared.lock_history.LockStep.TheVariants.{Changed}
 use Rattle.vl_engine.specs.Sweeping.{sweep_otherwise}
 use Rattle.vl_model.specs.History.{History}
 use Rattle.vlstore.specs.Entries.{done_by, entry_by, sweep_done, sweep_entry}

@@ -7,13 +7,13 @@ use Rattle.std.specs.Ordering.{nat_cmp}
 use Rattle.std.specs.Prelude.{Bool, cond, ◌==◌, Option, None, Some}
 use Rattle.atomic_table.specs.Seated.{TableId}
 use Rattle.atomic_table.specs.declared.shared.Seat.{Seat}
-use Rattle.vl_core.specs.Represents.{IsLive}
-use Rattle.vl_layout.specs.LockHistory.{HasOpen, IsLegal, IsOpen, IsOwn, OpenTicket, entries_by, nothing_open, number_of}
-use Rattle.vl_layout.specs.LockHistory.{last_layout, open_job, open_pass, open_tickets, tickets_in}
-use Rattle.vl_layout.specs.declared.job.Job.{Job}
-use Rattle.vl_layout.specs.declared.lock_history.LockEntry.{LockEntry}
-use Rattle.vl_layout.specs.laws.LockHistoryLaws.{last_layout-append, none≢some, own_is_open}
-use Rattle.vl_layout.specs.laws.OwnThings.{pass_stays}
+use Rattle.vl_engine_laws.specs.Represents.{IsLive}
+use Rattle.vl_engine_model.specs.LockHistory.{HasOpen, IsLegal, IsOpen, IsOwn, OpenTicket, entries_by, nothing_open, number_of}
+use Rattle.vl_engine_model.specs.LockHistory.{last_layout, open_job, open_pass, open_tickets, tickets_in}
+use Rattle.vl_engine_model.specs.declared.job.Job.{Job}
+use Rattle.vl_engine_model.specs.declared.lock_history.LockEntry.{LockEntry}
+use Rattle.vl_engine_model.specs.laws.LockHistoryLaws.{last_layout-append, none≢some, own_is_open}
+use Rattle.vl_engine_model.specs.laws.OwnThings.{pass_stays}
 use Rattle.vlstore.specs.Knowing.{IsSession, KeepsOwnMerge, own_in, session_in}
 use Rattle.vlstore.specs.Lists.{layout_by, open_by}
 use Rattle.vlstore.specs.Merges.{KeepMerges, lent_in}

@@ -20,19 +20,19 @@ use Rattle.vl_engine.specs.Merging.{HasMerge, fresh_outcome}
 use Rattle.vl_engine.specs.UnderWay.{IsUnderWay}
 use Rattle.vl_engine.specs.declared.fails.StepFail.{StepFail}
 use Rattle.vl_engine.specs.declared.open.OpenMerge.{OpenMerge}
-use Rattle.vl_layout.specs.Decides.{Answered}
-use Rattle.vl_layout.specs.Jobs.{AreDistinct, AreLent, tables_made}
-use Rattle.vl_layout.specs.LockHistory.{HasOpen, IsLegal, last_layout, nothing_open, open_job}
-use Rattle.vl_layout.specs.Merging.{merged_entries, outputs}
-use Rattle.vl_layout.specs.Rulings.Fresh.{Drawn}
-use Rattle.vl_layout.specs.Sources.{numbers_of}
-use Rattle.vl_layout.specs.Tables.{cut_into_tables}
-use Rattle.vl_layout.specs.declared.job.Job.{Job}
-use Rattle.vl_layout.specs.declared.job.OpenJob.{OpenJob}
-use Rattle.vl_layout.specs.declared.layout.Layout.{Layout}
-use Rattle.vl_layout.specs.declared.lock_history.LockEntry.{LockEntry}
-use Rattle.vl_layout.specs.laws.LockHistoryLaws.{none≢some}
-use Rattle.vl_layout.specs.laws.OwnThings.{open_job-is}
+use Rattle.vl_engine_model.specs.Decides.{Answered}
+use Rattle.vl_engine_model.specs.Jobs.{AreDistinct, AreLent, tables_made}
+use Rattle.vl_engine_model.specs.LockHistory.{HasOpen, IsLegal, last_layout, nothing_open, open_job}
+use Rattle.vl_engine_model.specs.Merging.{merged_entries, outputs}
+use Rattle.vl_engine_model.specs.Rulings.Fresh.{Drawn}
+use Rattle.vl_engine_model.specs.Sources.{numbers_of}
+use Rattle.vl_engine_model.specs.Tables.{cut_into_tables}
+use Rattle.vl_engine_model.specs.declared.job.Job.{Job}
+use Rattle.vl_engine_model.specs.declared.job.OpenJob.{OpenJob}
+use Rattle.vl_engine_model.specs.declared.layout.Layout.{Layout}
+use Rattle.vl_engine_model.specs.declared.lock_history.LockEntry.{LockEntry}
+use Rattle.vl_engine_model.specs.laws.LockHistoryLaws.{none≢some}
+use Rattle.vl_engine_model.specs.laws.OwnThings.{open_job-is}
 use Rattle.vl_model.specs.History.{History}
 use Rattle.vl_model.specs.Numbers.{has}
 use Rattle.vl_model.specs.declared.entry.Entry.{Entry}

@@ -2,33 +2,33 @@
 use Rattle.std.proofs.Common.{◌≡◌, ℕ, ◌+◌, List, [], ◌∷◌, refl, ap}
 use Rattle.std.specs.Prelude.{Bool, true, false, ◌==◌, ◌||◌, nat_le, nat_lt, if◌then◌else◌, Option, None, Some}
 use Rattle.std.specs.Option.{option_map}
-use Rattle.vl_core.specs.laws.Lasting.{install_lasts, lasts_same}
-use Rattle.vl_layout.specs.Decides.{Answered, as_before}
-use Rattle.vl_layout.specs.Garbage.{best}
-use Rattle.vl_layout.specs.Jobs.{Made, job_ended}
-use Rattle.vl_layout.specs.Levels.{due_from, first_into, inputs_at}
-use Rattle.vl_layout.specs.LockHistory.{IsOwn}
-use Rattle.vl_layout.specs.Relocation.{Candidate, Pass, moved_of}
-use Rattle.vl_layout.specs.Ruling.{Ruling, halted_at, has_no_number, has_no_version, leaving}
-use Rattle.vl_layout.specs.Rulings.Drain.{drain_of, drain_ruling, drain_unless}
-use Rattle.vl_layout.specs.Rulings.EndPass.{without_pass}
-use Rattle.vl_layout.specs.Rulings.Fresh.{FreshAnswer, drawn, fresh_ruling, fresh_unless, lent_to}
-use Rattle.vl_layout.specs.Rulings.Install.{InstallAnswer, install_checked, install_ruling, install_unless, installed, moved_since, race}
-use Rattle.vl_layout.specs.Rulings.Pick as pick
-use Rattle.vl_layout.specs.Rulings.Pick.{PickAnswer, pick_best, pick_ruling, pick_unless, with_pass}
-use Rattle.vl_layout.specs.Rulings.Plan.{job_of, plan_of, plan_ruling, plan_unless, planned, with_job}
-use Rattle.vl_layout.specs.Rulings.Relocate.{MoveAnswer, relocate_of, relocate_ruling, relocate_unless, relocated, with_moves}
-use Rattle.vl_layout.specs.Sources.{sources, tables}
-use Rattle.vl_layout.specs.declared.file_name.FileName.{FileName}
-use Rattle.vl_layout.specs.declared.job.Job.{Job}
-use Rattle.vl_layout.specs.declared.job.OpenJob.{OpenJob}
-use Rattle.vl_layout.specs.declared.job.OpenPass.{OpenPass}
-use Rattle.vl_layout.specs.declared.job.Target.TheVariants.{InPlace, Level}
-use Rattle.vl_layout.specs.declared.layout.Layout.{Layout}
-use Rattle.vl_layout.specs.declared.lock_history.LockEntry.{LockEntry}
-use Rattle.vl_layout.specs.declared.lock_history.LockStep.TheVariants.{Changed, JobEnded, PassEnded, Picked, Planned}
-use Rattle.vl_layout.specs.declared.segment.SegmentStat.{SegmentStat}
-use Rattle.vl_layout.specs.declared.table.Table.{Table}
+use Rattle.vl_engine_laws.specs.laws.Lasting.{install_lasts, lasts_same}
+use Rattle.vl_engine_model.specs.Decides.{Answered, as_before}
+use Rattle.vl_engine_model.specs.Garbage.{best}
+use Rattle.vl_engine_model.specs.Jobs.{Made, job_ended}
+use Rattle.vl_engine_model.specs.Levels.{due_from, first_into, inputs_at}
+use Rattle.vl_engine_model.specs.LockHistory.{IsOwn}
+use Rattle.vl_engine_model.specs.Relocation.{Candidate, Pass, moved_of}
+use Rattle.vl_engine_model.specs.Ruling.{Ruling, halted_at, has_no_number, has_no_version, leaving}
+use Rattle.vl_engine_model.specs.Rulings.Drain.{drain_of, drain_ruling, drain_unless}
+use Rattle.vl_engine_model.specs.Rulings.EndPass.{without_pass}
+use Rattle.vl_engine_model.specs.Rulings.Fresh.{FreshAnswer, drawn, fresh_ruling, fresh_unless, lent_to}
+use Rattle.vl_engine_model.specs.Rulings.Install.{InstallAnswer, install_checked, install_ruling, install_unless, installed, moved_since, race}
+use Rattle.vl_engine_model.specs.Rulings.Pick as pick
+use Rattle.vl_engine_model.specs.Rulings.Pick.{PickAnswer, pick_best, pick_ruling, pick_unless, with_pass}
+use Rattle.vl_engine_model.specs.Rulings.Plan.{job_of, plan_of, plan_ruling, plan_unless, planned, with_job}
+use Rattle.vl_engine_model.specs.Rulings.Relocate.{MoveAnswer, relocate_of, relocate_ruling, relocate_unless, relocated, with_moves}
+use Rattle.vl_engine_model.specs.Sources.{sources, tables}
+use Rattle.vl_engine_model.specs.declared.file_name.FileName.{FileName}
+use Rattle.vl_engine_model.specs.declared.job.Job.{Job}
+use Rattle.vl_engine_model.specs.declared.job.OpenJob.{OpenJob}
+use Rattle.vl_engine_model.specs.declared.job.OpenPass.{OpenPass}
+use Rattle.vl_engine_model.specs.declared.job.Target.TheVariants.{InPlace, Level}
+use Rattle.vl_engine_model.specs.declared.layout.Layout.{Layout}
+use Rattle.vl_engine_model.specs.declared.lock_history.LockEntry.{LockEntry}
+use Rattle.vl_engine_model.specs.declared.lock_history.LockStep.TheVariants.{Changed, JobEnded, PassEnded, Picked, Planned}
+use Rattle.vl_engine_model.specs.declared.segment.SegmentStat.{SegmentStat}
+use Rattle.vl_engine_model.specs.declared.table.Table.{Table}
 use Rattle.vl_engine.specs.Installing.{install_otherwise}
 use Rattle.vl_model.specs.Conflicts.{Named}
 use Rattle.vl_model.specs.Frames.{frame_length}

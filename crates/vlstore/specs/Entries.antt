@@ -1,32 +1,32 @@
 -- Which entry a call makes, by the session that makes it, what was before, and what it came to. A call that changes
 -- nothing makes none.
 use Rattle.std.specs.Prelude.{ℕ, zero, suc, ◌+◌, List, Option, None, Some, Result, Ok, Err}
-use Rattle.vl_layout.specs.Decides.{Answered, Damaged, Failed, NoMemory, Outcome}
-use Rattle.vl_layout.specs.Jobs.{Made, job_ended}
-use Rattle.vl_layout.specs.Relocation.{Candidate, Pass}
-use Rattle.vl_layout.specs.Ruling.{Exhausted, Halted, Idle, StepAnswer, Stepped, ended, halted_at, logged}
-use Rattle.vl_layout.specs.Rulings.Begin as begin
-use Rattle.vl_layout.specs.Rulings.Begin.{BeginAnswer, Begun, begun}
-use Rattle.vl_layout.specs.Rulings.Commit as commit
-use Rattle.vl_layout.specs.Rulings.Commit.{CommitAnswer, commit_frame}
-use Rattle.vl_layout.specs.Rulings.EndPass.{without_pass}
-use Rattle.vl_layout.specs.Rulings.Flush.{flush_ruling}
-use Rattle.vl_layout.specs.Rulings.Fresh as fresh
-use Rattle.vl_layout.specs.Rulings.Fresh.{FreshAnswer, lent_to}
-use Rattle.vl_layout.specs.Rulings.Install.{InstallAnswer, install_ruling}
-use Rattle.vl_layout.specs.Rulings.Pick as pick
-use Rattle.vl_layout.specs.Rulings.Pick.{PickAnswer, pick_ruling}
-use Rattle.vl_layout.specs.Rulings.Plan.{with_job}
-use Rattle.vl_layout.specs.Rulings.Relocate as relocate
-use Rattle.vl_layout.specs.Rulings.Relocate.{MoveAnswer, relocate_ruling}
-use Rattle.vl_layout.specs.Rulings.Rotate.{rotated}
-use Rattle.vl_layout.specs.Rulings.Sweep as sweep
-use Rattle.vl_layout.specs.Rulings.Sweep.{SweepAnswer, sweep_lost, sweep_ruling}
-use Rattle.vl_layout.specs.declared.job.Job.{Job}
-use Rattle.vl_layout.specs.declared.layout.Layout.{Layout}
-use Rattle.vl_layout.specs.declared.lock_history.LockEntry.{LockEntry}
-use Rattle.vl_layout.specs.declared.lock_history.LockStep.{LockStep}
-use Rattle.vl_layout.specs.declared.lock_history.LockStep.TheVariants as steps
+use Rattle.vl_engine_model.specs.Decides.{Answered, Damaged, Failed, NoMemory, Outcome}
+use Rattle.vl_engine_model.specs.Jobs.{Made, job_ended}
+use Rattle.vl_engine_model.specs.Relocation.{Candidate, Pass}
+use Rattle.vl_engine_model.specs.Ruling.{Exhausted, Halted, Idle, StepAnswer, Stepped, ended, halted_at, logged}
+use Rattle.vl_engine_model.specs.Rulings.Begin as begin
+use Rattle.vl_engine_model.specs.Rulings.Begin.{BeginAnswer, Begun, begun}
+use Rattle.vl_engine_model.specs.Rulings.Commit as commit
+use Rattle.vl_engine_model.specs.Rulings.Commit.{CommitAnswer, commit_frame}
+use Rattle.vl_engine_model.specs.Rulings.EndPass.{without_pass}
+use Rattle.vl_engine_model.specs.Rulings.Flush.{flush_ruling}
+use Rattle.vl_engine_model.specs.Rulings.Fresh as fresh
+use Rattle.vl_engine_model.specs.Rulings.Fresh.{FreshAnswer, lent_to}
+use Rattle.vl_engine_model.specs.Rulings.Install.{InstallAnswer, install_ruling}
+use Rattle.vl_engine_model.specs.Rulings.Pick as pick
+use Rattle.vl_engine_model.specs.Rulings.Pick.{PickAnswer, pick_ruling}
+use Rattle.vl_engine_model.specs.Rulings.Plan.{with_job}
+use Rattle.vl_engine_model.specs.Rulings.Relocate as relocate
+use Rattle.vl_engine_model.specs.Rulings.Relocate.{MoveAnswer, relocate_ruling}
+use Rattle.vl_engine_model.specs.Rulings.Rotate.{rotated}
+use Rattle.vl_engine_model.specs.Rulings.Sweep as sweep
+use Rattle.vl_engine_model.specs.Rulings.Sweep.{SweepAnswer, sweep_lost, sweep_ruling}
+use Rattle.vl_engine_model.specs.declared.job.Job.{Job}
+use Rattle.vl_engine_model.specs.declared.layout.Layout.{Layout}
+use Rattle.vl_engine_model.specs.declared.lock_history.LockEntry.{LockEntry}
+use Rattle.vl_engine_model.specs.declared.lock_history.LockStep.{LockStep}
+use Rattle.vl_engine_model.specs.declared.lock_history.LockStep.TheVariants as steps
 use Rattle.vl_model.specs.History.{History}
 use Rattle.vl_model.specs.declared.change.Change.{Change}
 

@@ -1,13 +1,13 @@
 -- All steps that were made under a store's lock, and the history and the layout that they come to.
 use Rattle.std.specs.Prelude.{ℕ, zero, suc, ◌+◌, List, [], ◌∷◌, map}
 use Rattle.std.specs.FinMap.{from_sorted}
-use Rattle.vl_layout.specs.LockHistory.{OpenThings, history_of, last_layout, nothing_open, open_things}
-use Rattle.vl_layout.specs.Start.{fresh_layout}
-use Rattle.vl_layout.specs.declared.layout.Layout.{Layout}
-use Rattle.vl_layout.specs.declared.lock_history.LockEntry.{LockEntry}
-use Rattle.vl_layout.specs.declared.lock_history.LockStep.{LockStep}
-use Rattle.vl_layout.specs.declared.lock_history.LockStep.TheVariants.{Begun, Changed, Ended, JobEnded, PassEnded, Picked}
-use Rattle.vl_layout.specs.declared.lock_history.LockStep.TheVariants.{Planned, Put}
+use Rattle.vl_engine_model.specs.LockHistory.{OpenThings, history_of, last_layout, nothing_open, open_things}
+use Rattle.vl_engine_model.specs.Start.{fresh_layout}
+use Rattle.vl_engine_model.specs.declared.layout.Layout.{Layout}
+use Rattle.vl_engine_model.specs.declared.lock_history.LockEntry.{LockEntry}
+use Rattle.vl_engine_model.specs.declared.lock_history.LockStep.{LockStep}
+use Rattle.vl_engine_model.specs.declared.lock_history.LockStep.TheVariants.{Begun, Changed, Ended, JobEnded, PassEnded, Picked}
+use Rattle.vl_engine_model.specs.declared.lock_history.LockStep.TheVariants.{Planned, Put}
 use Rattle.vl_model.specs.History.{History, Past}
 use Rattle.vl_model.specs.declared.change.Change.{Change}
 use Rattle.vlstore.specs.declared.locked.Origin.{Origin}

@@ -2,12 +2,12 @@
 use Rattle.std.specs.Prelude.{◌≡◌, ◌≢◌, ℕ, true, List, [], ◌∷◌, Option, None, Some, is_some}
 use Rattle.std.specs.Option.{option_map}
 use Rattle.vl_engine.specs.declared.open.OpenMerge.{OpenMerge}
-use Rattle.vl_layout.specs.LockHistory.{IsOwn, job_after, job_in, open_job}
-use Rattle.vl_layout.specs.declared.job.Job.{Job}
-use Rattle.vl_layout.specs.declared.job.OpenJob.{OpenJob}
-use Rattle.vl_layout.specs.declared.layout.Layout.{Layout}
-use Rattle.vl_layout.specs.declared.lock_history.LockEntry.{LockEntry}
-use Rattle.vl_layout.specs.declared.lock_history.LockStep.TheVariants.{JobEnded, Planned}
+use Rattle.vl_engine_model.specs.LockHistory.{IsOwn, job_after, job_in, open_job}
+use Rattle.vl_engine_model.specs.declared.job.Job.{Job}
+use Rattle.vl_engine_model.specs.declared.job.OpenJob.{OpenJob}
+use Rattle.vl_engine_model.specs.declared.layout.Layout.{Layout}
+use Rattle.vl_engine_model.specs.declared.lock_history.LockEntry.{LockEntry}
+use Rattle.vl_engine_model.specs.declared.lock_history.LockStep.TheVariants.{JobEnded, Planned}
 use Rattle.vlstore.specs.Lists.{layout_by}
 use Rattle.vlstore.specs.declared.locked.Origin.{Origin}
 

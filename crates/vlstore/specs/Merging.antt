@@ -3,14 +3,14 @@ use Rattle.std.specs.Prelude.{◌≡◌, ℕ, List, [], ◌∷◌, ◌++◌, Opt
 use Rattle.std.specs.List.{AllByRecursion}
 use Rattle.std.specs.Option.{ForSome}
 use Rattle.vl_engine.specs.Whole.{kept_of}
-use Rattle.vl_layout.specs.Jobs.{Made}
-use Rattle.vl_layout.specs.Rulings.Install.{Installed, install_ruling}
-use Rattle.vl_layout.specs.Rulings.Plan.{plan_ruling}
-use Rattle.vl_layout.specs.declared.job.Job.{Job}
-use Rattle.vl_layout.specs.declared.lock_history.LockEntry.{LockEntry}
-use Rattle.vl_layout.specs.declared.lock_history.LockStep.{LockStep}
-use Rattle.vl_layout.specs.declared.lock_history.LockStep.TheVariants.{Begun, Changed, Ended, JobEnded, PassEnded, Picked}
-use Rattle.vl_layout.specs.declared.lock_history.LockStep.TheVariants.{Planned, Put}
+use Rattle.vl_engine_model.specs.Jobs.{Made}
+use Rattle.vl_engine_model.specs.Rulings.Install.{Installed, install_ruling}
+use Rattle.vl_engine_model.specs.Rulings.Plan.{plan_ruling}
+use Rattle.vl_engine_model.specs.declared.job.Job.{Job}
+use Rattle.vl_engine_model.specs.declared.lock_history.LockEntry.{LockEntry}
+use Rattle.vl_engine_model.specs.declared.lock_history.LockStep.{LockStep}
+use Rattle.vl_engine_model.specs.declared.lock_history.LockStep.TheVariants.{Begun, Changed, Ended, JobEnded, PassEnded, Picked}
+use Rattle.vl_engine_model.specs.declared.lock_history.LockStep.TheVariants.{Planned, Put}
 use Rattle.vlstore.specs.Knowing.{Knows}
 use Rattle.vlstore.specs.Lists.{history_by, layout_by}
 use mathlib.Core.List.{IsPrefix}

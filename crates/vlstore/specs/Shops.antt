@@ -15,7 +15,7 @@ use Rattle.vl_engine.specs.declared.fails.StepFail.{StepFail}
 use Rattle.vl_engine.specs.declared.fails.StepFail.TheVariants as step
 use Rattle.vl_engine.specs.declared.fails.SweepFail.{SweepFail}
 use Rattle.vl_engine.specs.declared.fails.SweepFail.TheVariants as sweep
-use Rattle.vl_layout.specs.Start.{fresh_layout}
+use Rattle.vl_engine_model.specs.Start.{fresh_layout}
 use Rattle.vl_model.specs.Limits.{max_room}
 use Rattle.vl_txn.specs.declared.set_fail.SetFail.{SetFail}
 use Rattle.vl_txn.specs.declared.set_fail.SetFail.TheVariants as set

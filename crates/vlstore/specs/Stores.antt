@@ -1,7 +1,7 @@
 -- A store when it was made, and when it was closed.
 use Rattle.std.specs.Prelude.{◌≡◌, ℕ, ◌+◌, Bool, List, [], ◌∷◌, ◌++◌, Option, Some}
 use Rattle.atomic_table.specs.Seated.{TableId}
-use Rattle.vl_layout.specs.declared.lock_history.LockEntry.{LockEntry}
+use Rattle.vl_engine_model.specs.declared.lock_history.LockEntry.{LockEntry}
 use Rattle.vlstore.specs.Knowing.{Knows}
 use Rattle.vlstore.specs.Standing.{Parts, Stands}
 use Rattle.vlstore.specs.declared.fails.StoreFail.{StoreFail}

@@ -1,13 +1,13 @@
 // Laws of steps under a store's lock: each is the contract of a function that does nothing.
 ghost use Rattle.std.specs.List.{AllByRecursion};
 ghost use Rattle.std.specs.Prelude.{◌≡◌, ◌+◌, ◌++◌, ℕ, Bool, List, [], None, length, true};
-ghost use Rattle.vl_core.specs.MayStep.{Fits};
-ghost use Rattle.vl_core.specs.Represents.{Represents};
+ghost use Rattle.vl_engine_laws.specs.MayStep.{Fits};
+ghost use Rattle.vl_engine_laws.specs.Represents.{Represents};
 ghost use Rattle.vl_engine.specs.Collecting.{Collects};
 ghost use Rattle.vl_engine.specs.Removing.{Removes};
-ghost use Rattle.vl_layout.specs.LockHistory.{HasOpen, IsLegal, commits_of, nothing_open};
-ghost use Rattle.vl_layout.specs.declared.layout.Layout.{Layout};
-ghost use Rattle.vl_layout.specs.declared.lock_history.LockEntry.{LockEntry};
+ghost use Rattle.vl_engine_model.specs.LockHistory.{HasOpen, IsLegal, commits_of, nothing_open};
+ghost use Rattle.vl_engine_model.specs.declared.layout.Layout.{Layout};
+ghost use Rattle.vl_engine_model.specs.declared.lock_history.LockEntry.{LockEntry};
 ghost use Rattle.vl_model.specs.History.{History};
 ghost use Rattle.vl_seglog.specs.declared.sealed.SealedLog.{SealedLog};
 ghost use Rattle.vlstore.specs.Handing.{HasLasted};

@@ -5,7 +5,7 @@ use crate::mark::Mark;
 use std::collections::LinkedList;
 use vl_disk::Disk;
 use vl_engine::Engine;
-use vl_layout::{Layout, LockEntry};
+use vl_engine_model::{Layout, LockEntry};
 use vl_model::{Change, Key};
 use vl_turn::Standing;
 

@@ -13,12 +13,12 @@ use Rattle.vl_collect.specs.Standing.{HaveOnly, IsGiven, start}
 use Rattle.vl_collect.specs.declared.pass.At.{At}
 use Rattle.vl_frame.specs.Runs.{HasFrame, ReadsAs, StandsAt, item_frame, run_bytes}
 use Rattle.vl_frame.specs.laws.RunLaws as runs
-use Rattle.vl_layout.specs.Logs.{LogRecord, committed_records, frame_records, records, records_from, relocated_records}
-use Rattle.vl_layout.specs.Relocation.{Batched, Candidate, Pass, batch_with, found_in, has_room, if_any, next_batch, taken_from}
-use Rattle.vl_layout.specs.Relocation.{value_lengths, valued}
-use Rattle.vl_layout.specs.Shown.{IsThere}
-use Rattle.vl_layout.specs.Shows.{AreUpTo}
-use Rattle.vl_layout.specs.declared.segment.Segment.{Segment}
+use Rattle.vl_engine_model.specs.Logs.{LogRecord, committed_records, frame_records, records, records_from, relocated_records}
+use Rattle.vl_engine_model.specs.Relocation.{Batched, Candidate, Pass, batch_with, found_in, has_room, if_any, next_batch, taken_from}
+use Rattle.vl_engine_model.specs.Relocation.{value_lengths, valued}
+use Rattle.vl_engine_model.specs.Shown.{IsThere}
+use Rattle.vl_engine_model.specs.Shows.{AreUpTo}
+use Rattle.vl_engine_model.specs.declared.segment.Segment.{Segment}
 use Rattle.vl_model.specs.Entries.{is_at}
 use Rattle.vl_model.specs.Frames.{frame_length, moved_length, record_length}
 use Rattle.vl_model.specs.Keys.{Stored, key_cmp}

@@ -10,19 +10,19 @@ use Rattle.std.specs.List.{AllByRecursion, filter, flat_map}
 use Rattle.std.specs.Ordering.{is_eq, is_gt, is_lt, ordering_then, ordering_reverse, nat_cmp, eq_by_cmp}
 use Rattle.std.specs.declared.cmp.Ordering.{Ordering}
 use Rattle.std.specs.declared.cmp.Ordering.TheVariants.{Less, Equal, Greater}
-use Rattle.vl_layout.specs.Merging.{if_so, inputs_of, merged_entries, needless}
-use Rattle.vl_layout.specs.Sources.{table_entries}
-use Rattle.vl_layout.specs.declared.job.Job.{Job}
-use Rattle.vl_layout.specs.declared.table.Table.{Table}
-use Rattle.vl_merge.specs.Merging.{IsAlong, IsFirst, merged, place}
+use Rattle.vl_engine_model.specs.Merging.{if_so, inputs_of, merged_entries, needless}
+use Rattle.vl_engine_model.specs.Sources.{table_entries}
+use Rattle.vl_engine_model.specs.declared.job.Job.{Job}
+use Rattle.vl_engine_model.specs.declared.table.Table.{Table}
+use Rattle.vl_model.specs.Merging.{IsAlong, IsFirst, merged, place}
 use Rattle.vl_model.specs.Entries.{entry_cmp, in_order}
 use Rattle.vl_model.specs.Keys.{key_cmp}
 use Rattle.vl_model.specs.declared.entry.Entry.{Entry}
 use Rattle.vl_model.specs.declared.span.Span.{Span}
 use Rattle.vl_model.specs.declared.way.Way.TheVariants.{Up}
 use Rattle.vl_model.specs.laws.WinnerLaws.{key_exact}
-use Rattle.vl_run.specs.Order.{within}
-use Rattle.vl_run.specs.laws.OrderLaws.{entry_total}
+use Rattle.vl_model.specs.EntryOrder.{within}
+use Rattle.vl_model.specs.laws.OrderLaws.{entry_total}
 use Rattle.vl_compact.specs.Walking.{Place, comes_again, seen_before, place_of, is_spent_alone, is_behind, walk, spent}
 use Rattle.vl_compact.specs.laws.Repeats.{true_false}
 use Rattle.vl_compact.specs.laws.WalkLaws.{keeps, taken, taken_new, walk-taken, spent-taken, merged_entries-walked, needless-spent}

@@ -3,13 +3,13 @@ use Rattle.std.proofs.Common.{◌≡◌, Bool, true, false, cond, not, ◌&&◌,
 use Rattle.std.specs.List.{AllByRecursion, filter}
 use Rattle.std.specs.declared.cmp.Ordering.{Ordering}
 use Rattle.std.specs.declared.cmp.Ordering.TheVariants.{Less, Equal, Greater}
-use Rattle.vl_layout.specs.Merging.{Sourced, if_so, inputs_of, is_shadowed}
-use Rattle.vl_layout.specs.laws.ShowsLaws.{is_at-itself}
+use Rattle.vl_engine_model.specs.Merging.{Sourced, if_so, inputs_of, is_shadowed}
+use Rattle.vl_engine_model.specs.laws.ShowsLaws.{is_at-itself}
 use Rattle.vl_merge.specs.Marked.{is_first_outside}
 use Rattle.vl_model.specs.Entries.{is_at, entry_cmp, put, in_order}
 use Rattle.vl_model.specs.declared.entry.Entry.{Entry}
-use Rattle.vl_run.specs.laws.OrderLaws.{entry_total, IsBefore, IsRising, rising-in_order, before-all, turned}
-use Rattle.vl_run.specs.laws.OrderLaws.{put-less, put-equal, put-greater}
+use Rattle.vl_model.specs.laws.OrderLaws.{entry_total, IsBefore, IsRising, rising-in_order, before-all, turned}
+use Rattle.vl_model.specs.laws.OrderLaws.{put-less, put-equal, put-greater}
 use Rattle.vl_compact.specs.laws.Repeats.{tied_at, not_at}
 
 -- ---- filters of entries in order

@@ -9,13 +9,13 @@ use Rattle.std.specs.List.{AllByRecursion, list_any}
 use Rattle.std.specs.Ordering.{is_eq, ordering_then, nat_cmp, eq_by_cmp}
 use Rattle.std.specs.declared.cmp.Ordering.{Ordering}
 use Rattle.std.specs.declared.cmp.Ordering.TheVariants.{Less, Equal, Greater}
-use Rattle.vl_layout.specs.Merging.{is_outdated}
+use Rattle.vl_engine_model.specs.Merging.{is_outdated}
 use Rattle.vl_model.specs.Entries.{entry_cmp, put, in_order, by_order}
 use Rattle.vl_model.specs.Keys.{key_cmp}
 use Rattle.vl_model.specs.Winners.{counts}
 use Rattle.vl_model.specs.declared.entry.Entry.{Entry}
 use Rattle.vl_model.specs.laws.WinnerLaws.{same_key, key_tied, key_exact, entries_tied}
-use Rattle.vl_run.specs.laws.OrderLaws.{IsBefore, IsRising, rising-in_order}
+use Rattle.vl_model.specs.laws.OrderLaws.{IsBefore, IsRising, rising-in_order}
 use Rattle.vl_compact.specs.laws.Repeats.{true_false}
 
 -- ---- above an entry

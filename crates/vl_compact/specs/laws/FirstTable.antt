@@ -9,14 +9,14 @@ use Rattle.std.specs.Ordering.{is_eq, is_gt, is_lt, eq_by_cmp}
 use Rattle.std.specs.Prelude.{nat_le}
 use Rattle.std.specs.declared.cmp.Ordering.{Ordering}
 use Rattle.std.specs.declared.cmp.Ordering.TheVariants.{Less, Equal, Greater}
-use Rattle.vl_block.specs.Cutting.{around, begun_length, block_frame_length, blocks, blocks_from, entry_length, last_key, max_block_bytes}
-use Rattle.vl_layout.specs.Tables.{cut_into_tables, full_table_bytes, tables_from}
+use Rattle.vl_model.specs.Cutting.{around, begun_length, block_frame_length, blocks, blocks_from, entry_length, last_key, max_block_bytes}
+use Rattle.vl_engine_model.specs.Tables.{cut_into_tables, full_table_bytes, tables_from}
 use Rattle.vl_model.specs.Formats.{table_format}
 use Rattle.vl_model.specs.Keys.{key_cmp}
 use Rattle.vl_model.specs.declared.entry.Entry.{Entry}
 use Rattle.vl_model.specs.laws.WinnerLaws.{key_tied}
-use Rattle.vl_run.specs.Order.{IsInOrder}
-use Rattle.vl_run.specs.laws.OrderLaws.{all-append, IsBefore, IsRising, rising}
+use Rattle.vl_model.specs.EntryOrder.{IsInOrder}
+use Rattle.vl_model.specs.laws.OrderLaws.{all-append, IsBefore, IsRising, rising}
 use Rattle.vl_compact.specs.Walking.{is_behind}
 use Rattle.vl_compact.specs.laws.BehindLaws.{behind_later, filter-all, is_less}
 use Rattle.vl_compact.specs.laws.Counted.{less_parts}

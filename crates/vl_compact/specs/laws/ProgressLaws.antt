@@ -7,16 +7,16 @@ use Rattle.std.specs.Cmp.Lexicographic.{nat_list_cmp_total}
 use Rattle.std.specs.List.{AllByRecursion, filter}
 use Rattle.std.specs.Ordering.{is_lt}
 use Rattle.std.specs.declared.cmp.Ordering.TheVariants.{Less}
-use Rattle.vl_block.specs.Cutting.{joined, last_key}
-use Rattle.vl_layout.specs.Merging.{kept, merged_entries}
-use Rattle.vl_layout.specs.Tables.{cut_into_tables}
-use Rattle.vl_layout.specs.declared.job.Job.{Job}
-use Rattle.vl_layout.specs.laws.TableLaws.{cut-whole}
+use Rattle.vl_model.specs.Cutting.{joined, last_key}
+use Rattle.vl_engine_model.specs.Merging.{kept, merged_entries}
+use Rattle.vl_engine_model.specs.Tables.{cut_into_tables}
+use Rattle.vl_engine_model.specs.declared.job.Job.{Job}
+use Rattle.vl_engine_model.specs.laws.TableLaws.{cut-whole}
 use Rattle.vl_model.specs.Entries.{entry_cmp}
 use Rattle.vl_model.specs.Keys.{key_cmp}
 use Rattle.vl_model.specs.declared.entry.Entry.{Entry}
-use Rattle.vl_run.specs.Order.{IsInOrder}
-use Rattle.vl_run.specs.laws.OrderLaws.{IsRising, in_order-again, in_order-rising, rising}
+use Rattle.vl_model.specs.EntryOrder.{IsInOrder}
+use Rattle.vl_model.specs.laws.OrderLaws.{IsRising, in_order-again, in_order-rising, rising}
 use Rattle.vl_compact.specs.Walking.{is_behind}
 use Rattle.vl_compact.specs.laws.BehindLaws.{filter-all, is_less}
 use Rattle.vl_compact.specs.laws.Chosen.{all-filter}

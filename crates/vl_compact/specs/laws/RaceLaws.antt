@@ -7,15 +7,15 @@ use Rattle.std.specs.FinMap.{find, put as put_named}
 use Rattle.std.specs.Ordering.{is_gt, ordering_reverse}
 use Rattle.std.specs.declared.cmp.Ordering.{Ordering}
 use Rattle.std.specs.declared.cmp.Ordering.TheVariants.{Less, Equal, Greater}
-use Rattle.vl_layout.specs.Merging.{needless}
-use Rattle.vl_layout.specs.Rulings.Install.{moved_among, race, with_move}
-use Rattle.vl_layout.specs.declared.job.Job.{Job}
+use Rattle.vl_engine_model.specs.Merging.{needless}
+use Rattle.vl_engine_model.specs.Rulings.Install.{moved_among, race, with_move}
+use Rattle.vl_engine_model.specs.declared.job.Job.{Job}
 use Rattle.vl_model.specs.Conflicts.{Named, first_of}
 use Rattle.vl_model.specs.Entries.{by_order, entry_cmp, in_order, put}
 use Rattle.vl_model.specs.Keys.{key_cmp}
 use Rattle.vl_model.specs.declared.entry.Entry.{Entry}
 use Rattle.vl_model.specs.laws.WinnerLaws.{entries_tied, key_exact, key_tied}
-use Rattle.vl_run.specs.laws.OrderLaws.{IsBefore, IsRising, put-less, put-equal, put-greater, rising-in_order, turned}
+use Rattle.vl_model.specs.laws.OrderLaws.{IsBefore, IsRising, put-less, put-equal, put-greater, rising-in_order, turned}
 use Rattle.vl_compact.specs.laws.Counted.{less_parts}
 use Rattle.vl_compact.specs.laws.Repeats.{true_false}
 

@@ -7,13 +7,13 @@ use Rattle.std.specs.Cmp.{alike_right}
 use Rattle.std.specs.Ordering.{is_gt, ordering_then, nat_cmp, eq_by_cmp}
 use Rattle.std.specs.declared.cmp.Ordering.{Ordering}
 use Rattle.std.specs.declared.cmp.Ordering.TheVariants.{Less, Equal, Greater}
-use Rattle.vl_merge.specs.Merging.{place, merged}
+use Rattle.vl_model.specs.Merging.{place, merged}
 use Rattle.vl_model.specs.Entries.{is_at, entry_cmp, put, in_order}
 use Rattle.vl_model.specs.Keys.{key_cmp}
 use Rattle.vl_model.specs.declared.entry.Entry.{Entry}
 use Rattle.vl_model.specs.declared.way.Way.TheVariants.{Up}
 use Rattle.vl_model.specs.laws.WinnerLaws.{same_key, key_tied, entries_tied}
-use Rattle.vl_run.specs.laws.OrderLaws.{entry_total, turned, put-less, put-equal, put-greater}
+use Rattle.vl_model.specs.laws.OrderLaws.{entry_total, turned, put-less, put-equal, put-greater}
 
 pub true_false : true ≡ false → ⊥
 true_false is = cc

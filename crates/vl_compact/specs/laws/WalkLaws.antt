@@ -8,16 +8,16 @@ use Rattle.std.specs.List.{AllByRecursion, filter}
 use Rattle.std.specs.Ordering.{is_eq, is_gt, eq_by_cmp}
 use Rattle.std.specs.declared.cmp.Ordering.{Ordering}
 use Rattle.std.specs.declared.cmp.Ordering.TheVariants.{Less, Equal, Greater}
-use Rattle.vl_layout.specs.Merging.{Sourced, if_so, inputs_of, outside_of, is_shadowed, is_outdated, is_needless}
-use Rattle.vl_layout.specs.Merging.{kept_from, merged_entries, needless, needless_from, gone_after}
-use Rattle.vl_layout.specs.declared.job.Job.{Job}
-use Rattle.vl_merge.specs.Merging.{merged}
+use Rattle.vl_engine_model.specs.Merging.{Sourced, if_so, inputs_of, outside_of, is_shadowed, is_outdated, is_needless}
+use Rattle.vl_engine_model.specs.Merging.{kept_from, merged_entries, needless, needless_from, gone_after}
+use Rattle.vl_engine_model.specs.declared.job.Job.{Job}
+use Rattle.vl_model.specs.Merging.{merged}
 use Rattle.vl_model.specs.Entries.{entry_cmp, put, in_order, by_order}
 use Rattle.vl_model.specs.Keys.{key_cmp}
 use Rattle.vl_model.specs.declared.entry.Entry.{Entry}
 use Rattle.vl_model.specs.declared.way.Way.TheVariants.{Up}
 use Rattle.vl_model.specs.laws.WinnerLaws.{key_tied, entries_tied}
-use Rattle.vl_run.specs.laws.OrderLaws.{IsBefore, IsRising, rising-in_order}
+use Rattle.vl_model.specs.laws.OrderLaws.{IsBefore, IsRising, rising-in_order}
 use Rattle.vl_compact.specs.Walking.{Place, comes_again, seen_before, place_of, is_hidden, is_old, is_spent}
 use Rattle.vl_compact.specs.Walking.{is_let_go, is_spent_alone, walk, spent}
 use Rattle.vl_compact.specs.laws.Chosen.{chosen, is_chosen, chosen-in_order, filter-same}

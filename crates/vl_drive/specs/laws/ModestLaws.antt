@@ -6,11 +6,11 @@ use Rattle.std.proofs.lemmas.Bool.Decides.{nat_tests}
 use Rattle.std.specs.List.{AllByRecursion}
 use Rattle.vl_drive.specs.Modest.{HasFew}
 use Rattle.vl_drive.specs.Steps.{is_aside}
-use Rattle.vl_layout.specs.LockHistory.{OpenTicket, closed, is_of, open_tickets, tickets_after}
-use Rattle.vl_layout.specs.declared.lock_history.LockEntry.{LockEntry}
-use Rattle.vl_layout.specs.declared.lock_history.LockStep.{LockStep}
-use Rattle.vl_layout.specs.declared.lock_history.LockStep.TheVariants.{Begun, Changed, Ended, JobEnded, PassEnded}
-use Rattle.vl_layout.specs.declared.lock_history.LockStep.TheVariants.{Picked, Planned, Put}
+use Rattle.vl_engine_model.specs.LockHistory.{OpenTicket, closed, is_of, open_tickets, tickets_after}
+use Rattle.vl_engine_model.specs.declared.lock_history.LockEntry.{LockEntry}
+use Rattle.vl_engine_model.specs.declared.lock_history.LockStep.{LockStep}
+use Rattle.vl_engine_model.specs.declared.lock_history.LockStep.TheVariants.{Begun, Changed, Ended, JobEnded, PassEnded}
+use Rattle.vl_engine_model.specs.declared.lock_history.LockStep.TheVariants.{Picked, Planned, Put}
 use mathlib.Core.List.{IsPrefix}
 
 pub open_tickets-append : (ts : List OpenTicket) (es more : List LockEntry)

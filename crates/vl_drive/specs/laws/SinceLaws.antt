@@ -7,11 +7,11 @@ use Rattle.std.specs.FinMap.{find, from_sorted, get}
 use Rattle.std.specs.Option.{option_map}
 use Rattle.std.specs.Ordering.{is_eq}
 use Rattle.vl_drive.specs.Steps.{is_named, names}
-use Rattle.vl_layout.specs.LockHistory.{commits_of, put_after}
-use Rattle.vl_layout.specs.declared.lock_history.LockEntry.{LockEntry}
-use Rattle.vl_layout.specs.declared.lock_history.LockStep.{LockStep}
-use Rattle.vl_layout.specs.declared.lock_history.LockStep.TheVariants.{Begun, Changed, Ended, JobEnded, PassEnded}
-use Rattle.vl_layout.specs.declared.lock_history.LockStep.TheVariants.{Picked, Planned, Put}
+use Rattle.vl_engine_model.specs.LockHistory.{commits_of, put_after}
+use Rattle.vl_engine_model.specs.declared.lock_history.LockEntry.{LockEntry}
+use Rattle.vl_engine_model.specs.declared.lock_history.LockStep.{LockStep}
+use Rattle.vl_engine_model.specs.declared.lock_history.LockStep.TheVariants.{Begun, Changed, Ended, JobEnded, PassEnded}
+use Rattle.vl_engine_model.specs.declared.lock_history.LockStep.TheVariants.{Picked, Planned, Put}
 use Rattle.vl_model.specs.Conflicts.{Named, first_conflict, first_of, is_overwritten, overwritten, passing}
 use Rattle.vl_model.specs.History.{History, last_naming, newer}
 use Rattle.vl_model.specs.Keys.{Writes, key_cmp}

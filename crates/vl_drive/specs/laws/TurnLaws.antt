@@ -15,17 +15,17 @@ use Rattle.vl_drive.specs.Turns.{AreTurns, EndsTurn, InTurn, is_crossed}
 use Rattle.vl_drive.specs.declared.transfer.Transfer.{Transfer}
 use Rattle.vl_drive.specs.laws.SinceLaws.{named-since, unnamed-since}
 use Rattle.vl_drive.specs.laws.StepLaws.{Place, by_parts, counted_one, place_of}
-use Rattle.vl_layout.specs.LockHistory.{commits_of, put_after}
-use Rattle.vl_layout.specs.Ruling.{leaving}
-use Rattle.vl_layout.specs.Rulings.Commit.{At, CommitAnswer, Conflict, Exhausted, Full, Halted, Nothing, Transaction}
-use Rattle.vl_layout.specs.Rulings.Commit.{commit_checked, commit_ended, commit_frame, commit_ruling, commit_running}
-use Rattle.vl_layout.specs.Rulings.Commit.{commit_unless, committed}
-use Rattle.vl_layout.specs.declared.file_name.FileName.{FileName}
-use Rattle.vl_layout.specs.declared.layout.Layout.{Layout}
-use Rattle.vl_layout.specs.declared.lock_history.LockEntry.{LockEntry}
-use Rattle.vl_layout.specs.declared.lock_history.LockStep.{LockStep}
-use Rattle.vl_layout.specs.declared.lock_history.LockStep.TheVariants.{Begun}
-use Rattle.vl_layout.specs.laws.LockHistoryLaws.{commits_of-append, history_of-extends}
+use Rattle.vl_engine_model.specs.LockHistory.{commits_of, put_after}
+use Rattle.vl_engine_model.specs.Ruling.{leaving}
+use Rattle.vl_engine_model.specs.Rulings.Commit.{At, CommitAnswer, Conflict, Exhausted, Full, Halted, Nothing, Transaction}
+use Rattle.vl_engine_model.specs.Rulings.Commit.{commit_checked, commit_ended, commit_frame, commit_ruling, commit_running}
+use Rattle.vl_engine_model.specs.Rulings.Commit.{commit_unless, committed}
+use Rattle.vl_engine_model.specs.declared.file_name.FileName.{FileName}
+use Rattle.vl_engine_model.specs.declared.layout.Layout.{Layout}
+use Rattle.vl_engine_model.specs.declared.lock_history.LockEntry.{LockEntry}
+use Rattle.vl_engine_model.specs.declared.lock_history.LockStep.{LockStep}
+use Rattle.vl_engine_model.specs.declared.lock_history.LockStep.TheVariants.{Begun}
+use Rattle.vl_engine_model.specs.laws.LockHistoryLaws.{commits_of-append, history_of-extends}
 use Rattle.vl_model.specs.Conflicts.{Named, first_conflict}
 use Rattle.vl_model.specs.Frames.{frame_length}
 use Rattle.vl_model.specs.Limits.{max_commit_number}

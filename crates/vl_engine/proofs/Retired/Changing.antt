@@ -11,7 +11,7 @@ use Rattle.std.specs.VecDeque.{deque_items, deque_len, deque_capacity}
 use Rattle.vl_compact.specs.declared.files.Lent.{Lent}
 use Rattle.vl_disk.specs.declared.name.Name.{Name}
 use Rattle.vl_disk.specs.declared.name.Name.TheVariants as names
-use Rattle.vl_core.specs.declared.kept.Core.{Core}
+use Rattle.vl_engine_laws.specs.declared.kept.Core.{Core}
 use Rattle.vl_disk.specs.declared.writer.Writer.{Ghosts as Writers}
 use Rattle.vl_engine.specs.Retiring.{AreUsed, IsReadied, LeavesFiles, StaysUsed, all_left}
 use Rattle.vl_engine.specs.Retiring.{logs_kept, retiring, used_by, used_in}

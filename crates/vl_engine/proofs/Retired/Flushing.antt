@@ -5,8 +5,8 @@ use Rattle.std.specs.Prelude.{Option, None, Some, Result, Ok, Err}
 use Rattle.std.specs.Prelude.{◌==◌, ◌||◌}
 use Rattle.std.proofs.lemmas.Bool.Decides.{nat_tests}
 use Rattle.vl_back.specs.FlushEdits.{head_of}
-use Rattle.vl_core.specs.laws.FileLaws.{all_filtered}
-use Rattle.vl_core.specs.laws.WaitingLaws.{waits_first}
+use Rattle.vl_engine_laws.specs.laws.FileLaws.{all_filtered}
+use Rattle.vl_engine_laws.specs.laws.WaitingLaws.{waits_first}
 use Rattle.vl_engine.proofs.Collected.{flush_by, flush_history}
 use Rattle.vl_engine.proofs.Leaving.{staged_head}
 use Rattle.vl_engine.proofs.Retired.Rotating.{short}
@@ -17,14 +17,14 @@ use Rattle.vl_engine.specs.Stepping.{step_outcome}
 use Rattle.vl_engine.specs.declared.fails.StepFail.TheVariants as fails
 use Rattle.vl_engine.specs.declared.fails.StepFail.{StepFail}
 use Rattle.vl_engine.specs.declared.open.Collecting.{Collecting}
-use Rattle.vl_layout.specs.Decides.{Answered, Damaged, Decides, Effects, Failed, NoMemory, as_before}
-use Rattle.vl_layout.specs.Ruling.{StepAnswer, Stepped}
-use Rattle.vl_layout.specs.Rulings.Flush.{flush_ruling}
-use Rattle.vl_layout.specs.Sources.{number_or}
-use Rattle.vl_layout.specs.Start.{newest_first}
-use Rattle.vl_layout.specs.Stock.{IsFalling}
-use Rattle.vl_layout.specs.declared.file_name.FileName.TheVariants as files
-use Rattle.vl_layout_laws.specs.laws.Steps.{all_rising}
+use Rattle.vl_engine_model.specs.Decides.{Answered, Damaged, Decides, Effects, Failed, NoMemory, as_before}
+use Rattle.vl_engine_model.specs.Ruling.{StepAnswer, Stepped}
+use Rattle.vl_engine_model.specs.Rulings.Flush.{flush_ruling}
+use Rattle.vl_engine_model.specs.Sources.{number_or}
+use Rattle.vl_engine_model.specs.Start.{newest_first}
+use Rattle.vl_engine_model.specs.Stock.{IsFalling}
+use Rattle.vl_engine_model.specs.declared.file_name.FileName.TheVariants as files
+use Rattle.vl_engine_model_laws.specs.laws.Steps.{all_rising}
 use Rattle.vl_manifest.specs.declared.state.ManifestState.{ManifestState}
 use Rattle.vl_manifest.specs.declared.waiting.Waiting.{Waiting}
 use Rattle.vl_pins.specs.Files.{BecomesBy, Has, HasRoom, retired_of}
@@ -33,9 +33,9 @@ use Rattle.vl_recover.specs.opening.HeldFiles.{AreWaiting}
 use Rattle.std.specs.List.{AllByRecursion, filter, flat_map}
 use Rattle.std.specs.VecDeque.{deque_len, deque_capacity}
 use Rattle.vl_compact.specs.declared.files.Lent.{Lent}
-use Rattle.vl_core.specs.MayStep.{HasNumbers}
-use Rattle.vl_core.specs.Represents.{StandsFor}
-use Rattle.vl_core.specs.declared.kept.Core.{Core}
+use Rattle.vl_engine_laws.specs.MayStep.{HasNumbers}
+use Rattle.vl_engine_laws.specs.Represents.{StandsFor}
+use Rattle.vl_engine_laws.specs.declared.kept.Core.{Core}
 use Rattle.vl_disk.specs.declared.watched.Watched.{Ghosts}
 use Rattle.vl_engine.proofs.Collected.{decides_too, head_is_laid}
 use Rattle.vl_engine.proofs.Retired.Kept.{halts_removes, opens_lent, same_pins, stays_removes}
@@ -49,18 +49,18 @@ use Rattle.vl_engine.specs.Removing.{IsStockOf, Removes, all_retired, lent_in}
 use Rattle.vl_engine.specs.Retiring.{SwitchesStock, is_idle_in, is_idle_log, retiring, switching, used_in}
 use Rattle.vl_engine.specs.declared.open.OpenMerge.{OpenMerge}
 use Rattle.vl_engine.specs.declared.open.Removing.{Removing}
-use Rattle.vl_layout.specs.Jobs.{lent_numbers}
-use Rattle.vl_layout.specs.Ruling.{is_idle, retired_at, switched}
-use Rattle.vl_layout.specs.Rulings.Flush.{flushed, flushed_table}
-use Rattle.vl_layout.specs.Sources.{but_oldest, head, log_of, oldest, rising, tables}
-use Rattle.vl_layout.specs.Tidy.{log_numbers, sealed}
-use Rattle.vl_layout.specs.declared.file_name.FileName.{FileName}
-use Rattle.vl_layout.specs.declared.file_name.Retired.{Retired}
-use Rattle.vl_layout.specs.declared.layout.Layout.{Layout}
-use Rattle.vl_layout.specs.declared.segment.Segment.{Segment}
-use Rattle.vl_layout.specs.declared.table.Table as laid
-use Rattle.vl_layout_laws.specs.laws.Switches.{flushing}
-use Rattle.vl_layout_laws.specs.laws.TidyLogs.{sealed_same}
+use Rattle.vl_engine_model.specs.Jobs.{lent_numbers}
+use Rattle.vl_engine_model.specs.Ruling.{is_idle, retired_at, switched}
+use Rattle.vl_engine_model.specs.Rulings.Flush.{flushed, flushed_table}
+use Rattle.vl_engine_model.specs.Sources.{but_oldest, head, log_of, oldest, rising, tables}
+use Rattle.vl_engine_model.specs.Tidy.{log_numbers, sealed}
+use Rattle.vl_engine_model.specs.declared.file_name.FileName.{FileName}
+use Rattle.vl_engine_model.specs.declared.file_name.Retired.{Retired}
+use Rattle.vl_engine_model.specs.declared.layout.Layout.{Layout}
+use Rattle.vl_engine_model.specs.declared.segment.Segment.{Segment}
+use Rattle.vl_engine_model.specs.declared.table.Table as laid
+use Rattle.vl_engine_model_laws.specs.laws.Switches.{flushing}
+use Rattle.vl_engine_model_laws.specs.laws.TidyLogs.{sealed_same}
 use Rattle.vl_model.specs.History.{History}
 use Rattle.vl_model.specs.Numbers.{has}
 use Rattle.vl_pins.specs.Files.{Kept, with_tables}

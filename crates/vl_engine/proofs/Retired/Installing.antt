@@ -9,11 +9,11 @@ use Rattle.vl_compact.specs.Progress.{IsTableFile, made_of}
 use Rattle.vl_compact.specs.declared.files.Lent.{Lent}
 use Rattle.vl_compact.specs.declared.files.Synced.{Synced}
 use Rattle.vl_compact.specs.declared.job.Job.{Job}
-use Rattle.vl_core.specs.Laid.{IsTableOf}
-use Rattle.vl_core.specs.Represents.{StandsFor}
-use Rattle.vl_core.specs.declared.kept.Core.{Core}
-use Rattle.vl_core.specs.laws.FileLaws.{all_filtered}
-use Rattle.vl_core.specs.laws.LaidTables.{tables_are}
+use Rattle.vl_engine_laws.specs.Laid.{IsTableOf}
+use Rattle.vl_engine_laws.specs.Represents.{StandsFor}
+use Rattle.vl_engine_laws.specs.declared.kept.Core.{Core}
+use Rattle.vl_engine_laws.specs.laws.FileLaws.{all_filtered}
+use Rattle.vl_engine_laws.specs.laws.LaidTables.{tables_are}
 use Rattle.vl_disk.specs.declared.writer.Writer.{Ghosts as Writers}
 use Rattle.vl_engine.proofs.Collected.{head_is_laid}
 use Rattle.vl_engine.proofs.Retired.Changing.{map-both, nothing_behind}
@@ -30,25 +30,25 @@ use Rattle.vl_engine.specs.Removing.{IsStockOf, Removes, all_retired, lent_in}
 use Rattle.vl_engine.specs.Retiring.{InstallsInto, all_left, is_idle_log, retiring, switching, used_in}
 use Rattle.vl_engine.specs.declared.open.OpenMerge.{OpenMerge}
 use Rattle.vl_engine.specs.declared.open.Removing.{Removing}
-use Rattle.vl_layout.specs.Jobs.{AreDistinct, AreLent, Made, lent_numbers, loose, tables_made}
-use Rattle.vl_layout.specs.Levels.{is_among, replaced}
-use Rattle.vl_layout.specs.Merging.{outputs}
-use Rattle.vl_layout.specs.Ruling.{is_idle, retired_at, switched}
-use Rattle.vl_layout.specs.Rulings.Install.{installed, put_in}
-use Rattle.vl_layout.specs.Sources.{head, log_of, numbers_of, rising, table_of, tables}
-use Rattle.vl_layout.specs.Stock.{IsFalling}
-use Rattle.vl_layout.specs.Tidy.{log_numbers, sealed}
-use Rattle.vl_layout.specs.TidyLevels.{IsDistinct}
-use Rattle.vl_layout.specs.declared.file_name.FileName.{FileName}
-use Rattle.vl_layout.specs.declared.file_name.FileName.TheVariants as files
-use Rattle.vl_layout.specs.declared.file_name.Retired.{Retired}
-use Rattle.vl_layout.specs.declared.job.OpenJob.{OpenJob}
-use Rattle.vl_layout.specs.declared.layout.Layout.{Layout}
-use Rattle.vl_layout.specs.declared.segment.Segment.{Segment}
-use Rattle.vl_layout.specs.declared.table.Table as laid
-use Rattle.vl_layout_laws.specs.laws.Steps.{all_rising}
-use Rattle.vl_layout_laws.specs.laws.Switches.{all_replaced}
-use Rattle.vl_layout_laws.specs.laws.WellInstalled.{not_standing}
+use Rattle.vl_engine_model.specs.Jobs.{AreDistinct, AreLent, Made, lent_numbers, loose, tables_made}
+use Rattle.vl_engine_model.specs.Levels.{is_among, replaced}
+use Rattle.vl_engine_model.specs.Merging.{outputs}
+use Rattle.vl_engine_model.specs.Ruling.{is_idle, retired_at, switched}
+use Rattle.vl_engine_model.specs.Rulings.Install.{installed, put_in}
+use Rattle.vl_engine_model.specs.Sources.{head, log_of, numbers_of, rising, table_of, tables}
+use Rattle.vl_engine_model.specs.Stock.{IsFalling}
+use Rattle.vl_engine_model.specs.Tidy.{log_numbers, sealed}
+use Rattle.vl_engine_model.specs.TidyLevels.{IsDistinct}
+use Rattle.vl_engine_model.specs.declared.file_name.FileName.{FileName}
+use Rattle.vl_engine_model.specs.declared.file_name.FileName.TheVariants as files
+use Rattle.vl_engine_model.specs.declared.file_name.Retired.{Retired}
+use Rattle.vl_engine_model.specs.declared.job.OpenJob.{OpenJob}
+use Rattle.vl_engine_model.specs.declared.layout.Layout.{Layout}
+use Rattle.vl_engine_model.specs.declared.segment.Segment.{Segment}
+use Rattle.vl_engine_model.specs.declared.table.Table as laid
+use Rattle.vl_engine_model_laws.specs.laws.Steps.{all_rising}
+use Rattle.vl_engine_model_laws.specs.laws.Switches.{all_replaced}
+use Rattle.vl_engine_model_laws.specs.laws.WellInstalled.{not_standing}
 use Rattle.vl_model.specs.History.{History}
 use Rattle.vl_model.specs.Numbers.{has}
 use Rattle.vl_model.specs.declared.entry.Entry.{Entry}

@@ -7,9 +7,9 @@ use Rattle.vl_compact.specs.Progress.{made_of}
 use Rattle.vl_compact.specs.declared.files.Lent.{Lent}
 use Rattle.vl_compact.specs.declared.files.Synced.{Synced}
 use Rattle.vl_compact.specs.declared.job.Job.{Job}
-use Rattle.vl_core.specs.Represents.{StandsFor, file_of}
-use Rattle.vl_core.specs.declared.kept.Core.{Core}
-use Rattle.vl_core.specs.laws.InstallDiskEdits.{install_head}
+use Rattle.vl_engine_laws.specs.Represents.{StandsFor, file_of}
+use Rattle.vl_engine_laws.specs.declared.kept.Core.{Core}
+use Rattle.vl_engine_laws.specs.laws.InstallDiskEdits.{install_head}
 use Rattle.vl_disk.specs.declared.watched.Watched.{Ghosts}
 use Rattle.vl_disk.specs.declared.writer.Writer.{Ghosts as Writers}
 use Rattle.vl_engine.proofs.Collected.{decides_too}
@@ -20,8 +20,8 @@ use Rattle.vl_engine.specs.Collecting.{Collects, InstallsFor, IsTallied}
 use Rattle.vl_engine.specs.Installing.{InstallsUnraced, IsHandedIn, install_otherwise, numbers_in}
 use Rattle.vl_engine.specs.UnderWay.{IsUnderWay}
 use Rattle.vl_disk.specs.declared.name.Name.{Name}
-use Rattle.vl_layout.specs.Merging.{outputs}
-use Rattle.vl_layout.specs.Sources.{numbers_of}
+use Rattle.vl_engine_model.specs.Merging.{outputs}
+use Rattle.vl_engine_model.specs.Sources.{numbers_of}
 use Rattle.vl_engine.specs.Merging.{HasAllMerge, StandsOpen, install_outcome}
 use Rattle.vl_engine.specs.Pinning.{merge_pinned}
 use Rattle.vl_engine.specs.Removing.{Removes}
@@ -31,14 +31,14 @@ use Rattle.vl_engine.specs.declared.fails.InstallFail.{InstallFail}
 use Rattle.vl_engine.specs.declared.open.Collecting.{Collecting}
 use Rattle.vl_engine.specs.declared.open.OpenMerge.{OpenMerge}
 use Rattle.vl_engine.specs.declared.open.Removing.{Removing}
-use Rattle.vl_layout.specs.Decides.{Answered, Damaged, Decides, Effects, Failed, NoMemory, Outcome}
-use Rattle.vl_layout.specs.Jobs.{AreLent, Made, job_ended}
-use Rattle.vl_layout.specs.Ruling.{Ruling, halted_at}
-use Rattle.vl_layout.specs.Rulings.Install.{Exhausted, Halted, InstallAnswer, Installed, Raced, install_ruling, installed}
-use Rattle.vl_layout.specs.declared.file_name.FileName.{FileName}
-use Rattle.vl_layout.specs.declared.job.Job as laid_job
-use Rattle.vl_layout.specs.declared.job.OpenJob.{OpenJob}
-use Rattle.vl_layout.specs.declared.layout.Layout.{Layout}
+use Rattle.vl_engine_model.specs.Decides.{Answered, Damaged, Decides, Effects, Failed, NoMemory, Outcome}
+use Rattle.vl_engine_model.specs.Jobs.{AreLent, Made, job_ended}
+use Rattle.vl_engine_model.specs.Ruling.{Ruling, halted_at}
+use Rattle.vl_engine_model.specs.Rulings.Install.{Exhausted, Halted, InstallAnswer, Installed, Raced, install_ruling, installed}
+use Rattle.vl_engine_model.specs.declared.file_name.FileName.{FileName}
+use Rattle.vl_engine_model.specs.declared.job.Job as laid_job
+use Rattle.vl_engine_model.specs.declared.job.OpenJob.{OpenJob}
+use Rattle.vl_engine_model.specs.declared.layout.Layout.{Layout}
 use Rattle.vl_manifest.specs.declared.state.ManifestState.{ManifestState}
 use Rattle.vl_model.specs.History.{History}
 use Rattle.vl_model.specs.declared.counter.Counter.{Counter}

@@ -7,11 +7,11 @@ use Rattle.std.specs.List.{AllByRecursion, AllZip, filter, flat_map}
 use Rattle.std.specs.Ordering.{nat_cmp}
 use Rattle.std.specs.VecDeque.{deque_len, deque_capacity}
 use Rattle.std.specs.declared.cmp.Ordering.TheVariants.{Less, Equal, Greater}
-use Rattle.vl_core.specs.Laid.{HasLog, IsTableOf}
-use Rattle.vl_core.specs.Pointed.{segment_at}
-use Rattle.vl_core.specs.Represents.{StandsFor}
-use Rattle.vl_core.specs.declared.kept.Core.{Core}
-use Rattle.vl_core.specs.laws.LaidTables.{tables_are}
+use Rattle.vl_engine_laws.specs.Laid.{HasLog, IsTableOf}
+use Rattle.vl_engine_laws.specs.Pointed.{segment_at}
+use Rattle.vl_engine_laws.specs.Represents.{StandsFor}
+use Rattle.vl_engine_laws.specs.declared.kept.Core.{Core}
+use Rattle.vl_engine_laws.specs.laws.LaidTables.{tables_are}
 use Rattle.vl_engine.proofs.Collected.{lengths_are_laid}
 use Rattle.vl_engine.proofs.Retired.Changing.{but_absent}
 use Rattle.vl_engine.proofs.Retired.Retiring.{all_there, each, filter_alike, gone_logs, retiring_logs, retiring_tables, retiring_wait}
@@ -20,23 +20,23 @@ use Rattle.vl_engine.proofs.Tallying.{each_there, up_numbers, up_rising}
 use Rattle.vl_engine.specs.Collecting.{lengths_in}
 use Rattle.vl_engine.specs.Removing.{AreInUse, IsStockOf, UsesThoseOf, all_retired}
 use Rattle.vl_engine.specs.Retiring.{is_idle_log, retiring, used_by, used_in}
-use Rattle.vl_layout.specs.Garbage.{live_bytes}
-use Rattle.vl_layout.specs.Jobs.{AreDistinct, lent_numbers}
-use Rattle.vl_layout.specs.Levels.{in_front}
-use Rattle.vl_layout.specs.Ruling.{is_idle, retired_at, switched}
-use Rattle.vl_layout.specs.Rulings.Rotate.{rotated}
-use Rattle.vl_layout.specs.Sources.{head, log_of, put_segment, rising, tables}
-use Rattle.vl_layout.specs.Stock.{IsFalling}
-use Rattle.vl_layout.specs.Tidy.{log_numbers, sealed}
-use Rattle.vl_layout.specs.declared.file_name.FileName.{FileName}
-use Rattle.vl_layout.specs.declared.file_name.FileName.TheVariants as files
-use Rattle.vl_layout.specs.declared.file_name.Retired.{Retired}
-use Rattle.vl_layout.specs.declared.layout.Layout.{Layout}
-use Rattle.vl_layout.specs.declared.segment.Segment.{Segment}
-use Rattle.vl_layout.specs.declared.table.Table as laid
-use Rattle.vl_layout.specs.laws.RisingLaws.{map-filter}
-use Rattle.vl_layout_laws.specs.laws.Stock.{head_least}
-use Rattle.vl_layout_laws.specs.laws.Steps.{all_rising}
+use Rattle.vl_engine_model.specs.Garbage.{live_bytes}
+use Rattle.vl_engine_model.specs.Jobs.{AreDistinct, lent_numbers}
+use Rattle.vl_engine_model.specs.Levels.{in_front}
+use Rattle.vl_engine_model.specs.Ruling.{is_idle, retired_at, switched}
+use Rattle.vl_engine_model.specs.Rulings.Rotate.{rotated}
+use Rattle.vl_engine_model.specs.Sources.{head, log_of, put_segment, rising, tables}
+use Rattle.vl_engine_model.specs.Stock.{IsFalling}
+use Rattle.vl_engine_model.specs.Tidy.{log_numbers, sealed}
+use Rattle.vl_engine_model.specs.declared.file_name.FileName.{FileName}
+use Rattle.vl_engine_model.specs.declared.file_name.FileName.TheVariants as files
+use Rattle.vl_engine_model.specs.declared.file_name.Retired.{Retired}
+use Rattle.vl_engine_model.specs.declared.layout.Layout.{Layout}
+use Rattle.vl_engine_model.specs.declared.segment.Segment.{Segment}
+use Rattle.vl_engine_model.specs.declared.table.Table as laid
+use Rattle.vl_engine_model.specs.laws.RisingLaws.{map-filter}
+use Rattle.vl_engine_model_laws.specs.laws.Stock.{head_least}
+use Rattle.vl_engine_model_laws.specs.laws.Steps.{all_rising}
 use Rattle.vl_model.specs.Entries.{by_order}
 use Rattle.vl_model.specs.History.{History}
 use Rattle.vl_model.specs.Numbers.{has}

@@ -9,7 +9,7 @@ use Rattle.vl_disk.specs.declared.name.Name.TheVariants as names
 use Rattle.vl_engine.proofs.Retired.Changing.{filter_both, nothing_behind}
 use Rattle.vl_engine.proofs.Tallying.{AreUp, has_above}
 use Rattle.vl_engine.specs.Retiring.{retiring}
-use Rattle.vl_layout.specs.Jobs.{AreDistinct}
+use Rattle.vl_engine_model.specs.Jobs.{AreDistinct}
 use Rattle.vl_model.specs.Numbers.{has}
 use Rattle.vl_pins.specs.Files.{Kept, gone_at, log_retired, logs_retired, put_if, table_retired, tables_retired}
 use Rattle.vl_pins.specs.InUse.{but}

@@ -4,10 +4,10 @@ use Rattle.std.proofs.Common.{refl, ap, sym, ◌∙◌, subst, arith}
 use Rattle.std.specs.Prelude.{Option, None, Some, Result, Ok, Err}
 use Rattle.std.specs.List.{AllByRecursion}
 use Rattle.std.specs.VecDeque.{deque_len, deque_capacity}
-use Rattle.vl_core.specs.MayStep.{HasNumbers}
-use Rattle.vl_core.specs.Represents.{StandsFor}
-use Rattle.vl_core.specs.RotateFacts.{HasBegun}
-use Rattle.vl_core.specs.declared.kept.Core.{Core}
+use Rattle.vl_engine_laws.specs.MayStep.{HasNumbers}
+use Rattle.vl_engine_laws.specs.Represents.{StandsFor}
+use Rattle.vl_engine_laws.specs.RotateFacts.{HasBegun}
+use Rattle.vl_engine_laws.specs.declared.kept.Core.{Core}
 use Rattle.vl_disk.specs.declared.watched.Watched.{Ghosts}
 use Rattle.vl_engine.proofs.Collected.{decides_too}
 use Rattle.vl_engine.proofs.Committing.{decides_leaving}
@@ -24,16 +24,16 @@ use Rattle.vl_engine.specs.declared.fails.StepFail.{StepFail}
 use Rattle.vl_engine.specs.declared.open.OpenMerge.{OpenMerge}
 use Rattle.vl_engine.specs.declared.open.Removing.{Removing}
 use Rattle.vl_compact.specs.declared.files.Lent.{Lent}
-use Rattle.vl_layout.specs.Decides.{Answered, Damaged, Decides, Effects, Failed, NoMemory, Outcome, as_before, no_effects}
-use Rattle.vl_layout.specs.Jobs.{lent_numbers}
-use Rattle.vl_layout.specs.Ruling.{StepAnswer, Stepped}
-use Rattle.vl_layout.specs.Rulings.Rotate.{rotate_ruling, rotated}
-use Rattle.vl_layout.specs.Sources.{head, number_or, oldest, rising}
-use Rattle.vl_layout.specs.Tidy.{log_numbers, sealed}
-use Rattle.vl_layout.specs.declared.file_name.FileName.{FileName}
-use Rattle.vl_layout.specs.declared.file_name.Retired.{Retired}
-use Rattle.vl_layout.specs.declared.layout.Layout.{Layout}
-use Rattle.vl_layout.specs.declared.segment.Segment.{Segment}
+use Rattle.vl_engine_model.specs.Decides.{Answered, Damaged, Decides, Effects, Failed, NoMemory, Outcome, as_before, no_effects}
+use Rattle.vl_engine_model.specs.Jobs.{lent_numbers}
+use Rattle.vl_engine_model.specs.Ruling.{StepAnswer, Stepped}
+use Rattle.vl_engine_model.specs.Rulings.Rotate.{rotate_ruling, rotated}
+use Rattle.vl_engine_model.specs.Sources.{head, number_or, oldest, rising}
+use Rattle.vl_engine_model.specs.Tidy.{log_numbers, sealed}
+use Rattle.vl_engine_model.specs.declared.file_name.FileName.{FileName}
+use Rattle.vl_engine_model.specs.declared.file_name.Retired.{Retired}
+use Rattle.vl_engine_model.specs.declared.layout.Layout.{Layout}
+use Rattle.vl_engine_model.specs.declared.segment.Segment.{Segment}
 use Rattle.vl_model.specs.History.{History}
 use Rattle.vl_manifest.specs.declared.state.ManifestState.{ManifestState}
 use Rattle.vl_pins.specs.Files.{log_sealed}

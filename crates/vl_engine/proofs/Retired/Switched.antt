@@ -10,8 +10,8 @@ use Rattle.std.proofs.lemmas.Bool.{and_parts}
 use Rattle.std.proofs.lemmas.Bool.Decides.{nat_tests}
 use Rattle.std.proofs.lemmas.List.Elements.{All-append, All-filter, All-head, All-push, All-tail, All-weaker}
 use Rattle.vl_compact.specs.declared.files.Lent.{Lent}
-use Rattle.vl_core.specs.Carries.{StaysUntold}
-use Rattle.vl_core.specs.declared.kept.Core.{Core}
+use Rattle.vl_engine_laws.specs.Carries.{StaysUntold}
+use Rattle.vl_engine_laws.specs.declared.kept.Core.{Core}
 use Rattle.vl_back.specs.Writing.{written}
 use Rattle.vl_disk.specs.Changes.{changed_elsewhere}
 use Rattle.vl_disk.specs.Disk.{IsChangedBy, IsFree, Stands}
@@ -31,8 +31,8 @@ use Rattle.vl_engine.specs.Removing.{HasInUse, IsThere, IsWaiting, are_distinct,
 use Rattle.vl_engine.specs.Removing.{standing_names, with_number, with_standing}
 use Rattle.vl_engine.specs.Retiring.{retiring}
 use Rattle.vl_engine.specs.declared.open.OpenMerge.{OpenMerge}
-use Rattle.vl_layout.specs.Stock.{is_in}
-use Rattle.vl_layout.specs.Rulings.Sweep.{is_same}
+use Rattle.vl_engine_model.specs.Stock.{is_in}
+use Rattle.vl_engine_model.specs.Rulings.Sweep.{is_same}
 use Rattle.vl_model.specs.Numbers.{has}
 use Rattle.vl_pins.specs.Files.{Has, Kept, file_of, gone_at, log_retired, logs_retired, table_retired, tables_retired, with_tables}
 use Rattle.vl_pins.specs.InUse.{but}

@@ -11,8 +11,8 @@ use Rattle.std.proofs.lemmas.Bool.Decides.{nat_tests}
 use Rattle.std.proofs.lemmas.List.Elements.{All-filter, All-head, All-push, All-tail, All-weaker}
 use Rattle.vl_back.specs.Writing.{KeepsOthers}
 use Rattle.vl_compact.specs.declared.files.Lent.{Lent}
-use Rattle.vl_core.specs.Carries.{StaysUntold}
-use Rattle.vl_core.specs.declared.kept.Core.{Core}
+use Rattle.vl_engine_laws.specs.Carries.{StaysUntold}
+use Rattle.vl_engine_laws.specs.declared.kept.Core.{Core}
 use Rattle.vl_disk.specs.Disk.{IsFree, Stands}
 use Rattle.vl_disk.specs.DiskState.{DiskState, File}
 use Rattle.vl_disk.specs.declared.name.Name.{Name}
@@ -28,7 +28,7 @@ use Rattle.vl_engine.specs.Removing.{HasInUse, IsThere, IsWaiting, are_distinct,
 use Rattle.vl_engine.specs.Removing.{logs_in_use, numbers_left, standing_names, tables_in_use, with_standing}
 use Rattle.vl_engine.specs.Retiring.{StaysUsed, used_by, used_in}
 use Rattle.vl_engine.specs.declared.open.OpenMerge.{OpenMerge}
-use Rattle.vl_layout.specs.Stock.{is_in}
+use Rattle.vl_engine_model.specs.Stock.{is_in}
 use Rattle.vl_model.specs.Numbers.{has}
 use Rattle.vl_pins.specs.Files.{Has, Kept, file_of, kept_in, log_sealed}
 use Rattle.vl_pins.specs.InUse.{but}

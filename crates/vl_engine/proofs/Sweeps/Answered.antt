@@ -8,14 +8,14 @@ use Rattle.std.proofs.Common.{sym, subst, ap, ◌∙◌, arith, append-nil}
 use Rattle.std.proofs.lemmas.List.Elements.{recursion_from_All}
 use Rattle.vl_back.specs.declared.back.Back.{Back}
 use Rattle.vl_compact.specs.declared.files.Lent.{Lent}
-use Rattle.vl_core.specs.Carries.{CrashesShow, StaysUntold, Tells}
-use Rattle.vl_core.specs.MayStep.{Fits, LeavesNumbers}
-use Rattle.vl_core.specs.Represents.{IsHeld, Represents, StandsFor, file_of}
-use Rattle.vl_core.specs.declared.kept.Core.{Core}
-use Rattle.vl_core.specs.laws.AsideLaws.{held_aside}
-use Rattle.vl_core.specs.laws.Carrying.{IsWatched, rests}
-use Rattle.vl_core.specs.laws.HeldLaws.{held_opens_again}
-use Rattle.vl_core.specs.laws.Represented.{represents_halted}
+use Rattle.vl_engine_laws.specs.Carries.{CrashesShow, StaysUntold, Tells}
+use Rattle.vl_engine_laws.specs.MayStep.{Fits, LeavesNumbers}
+use Rattle.vl_engine_laws.specs.Represents.{IsHeld, Represents, StandsFor, file_of}
+use Rattle.vl_engine_laws.specs.declared.kept.Core.{Core}
+use Rattle.vl_engine_laws.specs.laws.AsideLaws.{held_aside}
+use Rattle.vl_engine_laws.specs.laws.Carrying.{IsWatched, rests}
+use Rattle.vl_engine_laws.specs.laws.HeldLaws.{held_opens_again}
+use Rattle.vl_engine_laws.specs.laws.Represented.{represents_halted}
 use Rattle.vl_disk.specs.Calls.{ChangesNothing}
 use Rattle.vl_disk.specs.Crash.{Unchanged}
 use Rattle.vl_disk.specs.DiskState.{DiskState, File, IsLawful, new_file}
@@ -45,18 +45,18 @@ use Rattle.vl_engine.specs.declared.fails.SweepFail.{SweepFail}
 use Rattle.vl_engine.specs.declared.open.OpenMerge.{OpenMerge}
 use Rattle.vl_engine.specs.declared.open.Removing.{Removing}
 use Rattle.vl_engine.specs.laws.SweepHolds.{MayGo}
-use Rattle.vl_layout.specs.Decides.{Answered}
-use Rattle.vl_layout.specs.Rulings.Sweep.{SweepAnswer, sweep_lost, sweep_unless, swept, without_files}
-use Rattle.vl_layout.specs.Stock.{AreOnce, files_of}
-use Rattle.vl_layout.specs.declared.file_name.FileName.{FileName}
-use Rattle.vl_layout.specs.declared.file_name.Retired.{Retired}
-use Rattle.vl_layout.specs.declared.layout.Layout.{Layout}
+use Rattle.vl_engine_model.specs.Decides.{Answered}
+use Rattle.vl_engine_model.specs.Rulings.Sweep.{SweepAnswer, sweep_lost, sweep_unless, swept, without_files}
+use Rattle.vl_engine_model.specs.Stock.{AreOnce, files_of}
+use Rattle.vl_engine_model.specs.declared.file_name.FileName.{FileName}
+use Rattle.vl_engine_model.specs.declared.file_name.Retired.{Retired}
+use Rattle.vl_engine_model.specs.declared.layout.Layout.{Layout}
 use Rattle.vl_manifest.specs.declared.state.ManifestState.{ManifestState}
 use Rattle.vl_model.specs.History.{History}
 use Rattle.vl_pins.specs.declared.retired_file.RetiredFile.{RetiredFile}
 use Rattle.vl_version.specs.declared.version.Version.{Version}
 use Rattle.vl_recover.specs.crash.Starts.{MayOpen}
-use Rattle.vl_layout_laws.specs.laws.Once.{once_filtered}
+use Rattle.vl_engine_model_laws.specs.laws.Once.{once_filtered}
 
 module _ {D W : Type 0} (g : Ghosts D) (w : Writers W) {s : _} {H : Type 0} (core after : Core H) (before now : Removing (Lent W s))
     (old new : D) (merging : Option OpenMerge) (there : core.front.halted ≡ None → IsThere g w old core merging before.stock)

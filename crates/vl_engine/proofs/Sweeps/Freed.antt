@@ -4,18 +4,18 @@ use Rattle.std.specs.Prelude.{if◌then◌else◌, Option, None, Some, true, fal
 use Rattle.std.specs.List.{AllByRecursion, filter, list_any}
 use Rattle.std.proofs.Common.{sym, ap, ◌∙◌, arith}
 use Rattle.std.proofs.lemmas.Bool.Decides.{nat_tests}
-use Rattle.vl_core.specs.Represents.{file_of}
+use Rattle.vl_engine_laws.specs.Represents.{file_of}
 use Rattle.vl_engine.specs.Removing.{all_retired}
 use Rattle.vl_engine.specs.Sweeping.{held, ready, up_to}
-use Rattle.vl_layout.specs.Rulings.Sweep.{is_held, is_retired_up_to, is_same, pins as pins_of, swept, without_files}
-use Rattle.vl_layout.specs.Stock.{AreOnce, files_of, is_in}
-use Rattle.vl_layout.specs.declared.file_name.FileName.{FileName}
-use Rattle.vl_layout.specs.declared.file_name.FileName.TheVariants.{Log, Table, Manifest}
-use Rattle.vl_layout.specs.declared.file_name.Retired.{Retired}
-use Rattle.vl_layout.specs.declared.layout.Layout.{Layout}
-use Rattle.vl_layout.specs.laws.RisingLaws.{map-filter}
-use Rattle.vl_layout_laws.specs.laws.Files.{or_false}
-use Rattle.vl_layout_laws.specs.laws.Once.{off_filtered}
+use Rattle.vl_engine_model.specs.Rulings.Sweep.{is_held, is_retired_up_to, is_same, pins as pins_of, swept, without_files}
+use Rattle.vl_engine_model.specs.Stock.{AreOnce, files_of, is_in}
+use Rattle.vl_engine_model.specs.declared.file_name.FileName.{FileName}
+use Rattle.vl_engine_model.specs.declared.file_name.FileName.TheVariants.{Log, Table, Manifest}
+use Rattle.vl_engine_model.specs.declared.file_name.Retired.{Retired}
+use Rattle.vl_engine_model.specs.declared.layout.Layout.{Layout}
+use Rattle.vl_engine_model.specs.laws.RisingLaws.{map-filter}
+use Rattle.vl_engine_model_laws.specs.laws.Files.{or_false}
+use Rattle.vl_engine_model_laws.specs.laws.Once.{off_filtered}
 use Rattle.vl_pins.specs.Files.{is_up_to, retired_of}
 use Rattle.vl_pins.specs.Pins.{ArePinsOf, bound_of}
 use Rattle.vl_pins.specs.declared.pins.Pins.{Pins}

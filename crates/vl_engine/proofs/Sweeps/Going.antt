@@ -7,7 +7,7 @@ use Rattle.std.specs.Option.{ForSome, option_map}
 use Rattle.std.proofs.Common.{sym, subst, ap, ◌∙◌, ⊎_elim}
 use Rattle.vl_back.specs.Writing.{IsKept}
 use Rattle.vl_compact.specs.declared.files.Lent.{Lent}
-use Rattle.vl_core.specs.Carries.{StaysUntold}
+use Rattle.vl_engine_laws.specs.Carries.{StaysUntold}
 use Rattle.vl_disk.specs.Changes.{SameElsewhere}
 use Rattle.vl_disk.specs.Disk.{IsFree}
 use Rattle.vl_disk.specs.DiskState.{DiskState, File, without}

@@ -6,14 +6,14 @@ use Rattle.std.specs.List.{AllByRecursion}
 use Rattle.std.specs.Option.{ForSome, option_map}
 use Rattle.std.proofs.Common.{sym, subst, ap, ◌∙◌, ⊎_elim}
 use Rattle.vl_compact.specs.declared.files.Lent.{Lent}
-use Rattle.vl_core.specs.Carries.{CrashesShow, Tells}
-use Rattle.vl_core.specs.Held.{AreBegun, Base, Holds, HoldsBase, IsBase}
-use Rattle.vl_core.specs.Pointed.{layout_logs}
-use Rattle.vl_core.specs.Shown.{LeavesBetween}
-use Rattle.vl_core.specs.laws.Carrying.{IsWatched}
-use Rattle.vl_core.specs.laws.HeldLaws.{held_opens_again}
-use Rattle.vl_core.specs.laws.IdleLaws.{idle_base, idle_goes, idle_leaves, without_idle}
-use Rattle.vl_core.specs.laws.KeptLaws.{log_table}
+use Rattle.vl_engine_laws.specs.Carries.{CrashesShow, Tells}
+use Rattle.vl_engine_laws.specs.Held.{AreBegun, Base, Holds, HoldsBase, IsBase}
+use Rattle.vl_engine_laws.specs.Pointed.{layout_logs}
+use Rattle.vl_engine_laws.specs.Shown.{LeavesBetween}
+use Rattle.vl_engine_laws.specs.laws.Carrying.{IsWatched}
+use Rattle.vl_engine_laws.specs.laws.HeldLaws.{held_opens_again}
+use Rattle.vl_engine_laws.specs.laws.IdleLaws.{idle_base, idle_goes, idle_leaves, without_idle}
+use Rattle.vl_engine_laws.specs.laws.KeptLaws.{log_table}
 use Rattle.vl_disk.specs.Changes.{without_elsewhere, without_removed}
 use Rattle.vl_disk.specs.Crash.{Image, MayLeave, WhileRemoving, last_file}
 use Rattle.vl_disk.specs.Disk.{IsChangedBy}
@@ -31,8 +31,8 @@ use Rattle.vl_engine.proofs.Sweeps.Going.{Tell, tell_then}
 use Rattle.vl_engine.specs.Sweeping.{RemovesAll, RemovesOne, TakesIfLent}
 use Rattle.vl_engine.specs.laws.SweepHolds.{IsIdleLog, IsOutside, MayGo, adopting_leaves_so, base_now, removed_holds, removing_leaves}
 use Rattle.vl_engine.specs.laws.SweepHolds.{still_may, taken_holds, taken_opens_again, taking_leaves}
-use Rattle.vl_layout.specs.Tidy.{IsTidy}
-use Rattle.vl_layout.specs.declared.layout.Layout.{Layout}
+use Rattle.vl_engine_model.specs.Tidy.{IsTidy}
+use Rattle.vl_engine_model.specs.declared.layout.Layout.{Layout}
 use Rattle.vl_model.specs.History.{History}
 use Rattle.vl_pins.specs.declared.retired_file.RetiredFile.{RetiredFile}
 use Rattle.vl_recover.specs.crash.Starts.{MayOpen}

@@ -7,10 +7,10 @@ use Rattle.std.proofs.Common.{sym, subst, ap, ◌∙◌, arith, inl, inr, ⊎_el
 use Rattle.std.proofs.lemmas.Bool.{cases_lt}
 use Rattle.std.proofs.lemmas.Bool.Decides.{nat_tests}
 use Rattle.vl_compact.specs.declared.files.Lent.{Lent}
-use Rattle.vl_core.specs.Held.{Base, Holds, IsBase}
-use Rattle.vl_core.specs.Represents.{file_of}
-use Rattle.vl_core.specs.laws.IdleLaws.{idle_or_held}
-use Rattle.vl_core.specs.laws.KeptLaws.{log_manifest, log_table, table_manifest}
+use Rattle.vl_engine_laws.specs.Held.{Base, Holds, IsBase}
+use Rattle.vl_engine_laws.specs.Represents.{file_of}
+use Rattle.vl_engine_laws.specs.laws.IdleLaws.{idle_or_held}
+use Rattle.vl_engine_laws.specs.laws.KeptLaws.{log_manifest, log_table, table_manifest}
 use Rattle.vl_disk.specs.DiskState.{DiskState, File}
 use Rattle.vl_disk.specs.declared.name.Name.{Name}
 use Rattle.vl_disk.specs.declared.name.Name.TheVariants as names
@@ -19,18 +19,18 @@ use Rattle.vl_disk.specs.declared.writer.Writer.{Ghosts as Writers}
 use Rattle.vl_engine.proofs.Sweeps.Freed.{all_then}
 use Rattle.vl_engine.specs.Removing.{IsWaiting, all_retired}
 use Rattle.vl_engine.specs.laws.SweepHolds.{IsIdleLog, IsOutside, MayGo}
-use Rattle.vl_layout.specs.Jobs.{lent_numbers, loose}
-use Rattle.vl_layout.specs.Rulings.Sweep.{is_same}
-use Rattle.vl_layout.specs.Sources.{log_of, needed, pointed_logs, table_of, tables}
-use Rattle.vl_layout.specs.Stock.{IsDrawn, IsLogOff, IsUnneeded, IsWellStocked, files_of, is_in}
-use Rattle.vl_layout.specs.declared.file_name.FileName.{FileName}
-use Rattle.vl_layout.specs.declared.file_name.FileName.TheVariants.{Log, Table, Manifest}
-use Rattle.vl_layout.specs.declared.file_name.Retired.{Retired}
-use Rattle.vl_layout.specs.declared.layout.Layout.{Layout}
-use Rattle.vl_layout.specs.declared.segment.Segment.{Segment}
-use Rattle.vl_layout.specs.declared.table.Table as laid
-use Rattle.vl_layout_laws.specs.laws.Files.{or_false}
-use Rattle.vl_layout_laws.specs.laws.Once.{off_parts}
+use Rattle.vl_engine_model.specs.Jobs.{lent_numbers, loose}
+use Rattle.vl_engine_model.specs.Rulings.Sweep.{is_same}
+use Rattle.vl_engine_model.specs.Sources.{log_of, needed, pointed_logs, table_of, tables}
+use Rattle.vl_engine_model.specs.Stock.{IsDrawn, IsLogOff, IsUnneeded, IsWellStocked, files_of, is_in}
+use Rattle.vl_engine_model.specs.declared.file_name.FileName.{FileName}
+use Rattle.vl_engine_model.specs.declared.file_name.FileName.TheVariants.{Log, Table, Manifest}
+use Rattle.vl_engine_model.specs.declared.file_name.Retired.{Retired}
+use Rattle.vl_engine_model.specs.declared.layout.Layout.{Layout}
+use Rattle.vl_engine_model.specs.declared.segment.Segment.{Segment}
+use Rattle.vl_engine_model.specs.declared.table.Table as laid
+use Rattle.vl_engine_model_laws.specs.laws.Files.{or_false}
+use Rattle.vl_engine_model_laws.specs.laws.Once.{off_parts}
 use Rattle.vl_model.specs.History.{History}
 use Rattle.vl_pins.specs.Files.{retired_of}
 use Rattle.vl_pins.specs.declared.retired_file.RetiredFile.{RetiredFile}

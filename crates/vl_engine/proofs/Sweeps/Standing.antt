@@ -5,10 +5,10 @@ use Rattle.std.specs.List.{filter}
 use Rattle.std.specs.Option.{option_map}
 use Rattle.std.proofs.Common.{sym, subst, ap, ◌∙◌, arith, ⊎_elim}
 use Rattle.vl_compact.specs.declared.files.Lent.{Lent}
-use Rattle.vl_core.specs.Pointed.{layout_logs}
-use Rattle.vl_core.specs.Represents.{StandsFor, file_of}
-use Rattle.vl_core.specs.declared.kept.Core.{Core}
-use Rattle.vl_core.specs.laws.AsideLaws.{same_stands}
+use Rattle.vl_engine_laws.specs.Pointed.{layout_logs}
+use Rattle.vl_engine_laws.specs.Represents.{StandsFor, file_of}
+use Rattle.vl_engine_laws.specs.declared.kept.Core.{Core}
+use Rattle.vl_engine_laws.specs.laws.AsideLaws.{same_stands}
 use Rattle.vl_disk.specs.declared.name.Name.{Name}
 use Rattle.vl_disk.specs.declared.watched.Watched.{Ghosts}
 use Rattle.vl_disk.specs.declared.writer.Writer.{Ghosts as Writers}
@@ -27,13 +27,13 @@ use Rattle.vl_engine.specs.declared.fails.SweepFail.{SweepFail}
 use Rattle.vl_engine.specs.declared.open.Collecting.{Collecting}
 use Rattle.vl_engine.specs.declared.open.OpenMerge.{OpenMerge}
 use Rattle.vl_engine.specs.declared.open.Removing.{Removing}
-use Rattle.vl_layout.specs.Decides.{effects_of, no_effects}
-use Rattle.vl_layout.specs.Ruling.{halted_at}
-use Rattle.vl_layout.specs.Rulings.Sweep.{Halted, Removed, sweep_lost, sweep_unless, swept, without_files}
-use Rattle.vl_layout.specs.declared.file_name.FileName.{FileName}
-use Rattle.vl_layout.specs.declared.file_name.Retired.{Retired}
-use Rattle.vl_layout.specs.declared.layout.Layout.{Layout}
-use Rattle.vl_layout_laws.specs.laws.TidySteps.{tidy_swept}
+use Rattle.vl_engine_model.specs.Decides.{effects_of, no_effects}
+use Rattle.vl_engine_model.specs.Ruling.{halted_at}
+use Rattle.vl_engine_model.specs.Rulings.Sweep.{Halted, Removed, sweep_lost, sweep_unless, swept, without_files}
+use Rattle.vl_engine_model.specs.declared.file_name.FileName.{FileName}
+use Rattle.vl_engine_model.specs.declared.file_name.Retired.{Retired}
+use Rattle.vl_engine_model.specs.declared.layout.Layout.{Layout}
+use Rattle.vl_engine_model_laws.specs.laws.TidySteps.{tidy_swept}
 use Rattle.vl_model.specs.History.{History}
 use Rattle.vl_pins.specs.Pins.{ArePinsOf, raised}
 use Rattle.vl_pins.specs.declared.retired_file.RetiredFile.{RetiredFile}

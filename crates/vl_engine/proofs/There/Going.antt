@@ -4,7 +4,7 @@ use Rattle.std.specs.Prelude.{Option, None, Some, Result, Ok, Err, is_some, true
 use Rattle.std.specs.Option.{ForSome, option_map}
 use Rattle.std.proofs.Common.{sym, subst, ap, ◌∙◌, ⊎_elim}
 use Rattle.vl_compact.specs.declared.files.Lent.{Lent}
-use Rattle.vl_core.specs.Carries.{StaysUntold}
+use Rattle.vl_engine_laws.specs.Carries.{StaysUntold}
 use Rattle.vl_disk.specs.Calls.{Removes}
 use Rattle.vl_disk.specs.Changes.{SameElsewhere, without_elsewhere}
 use Rattle.vl_disk.specs.Disk.{IsChangedBy}
@@ -21,7 +21,7 @@ use Rattle.vl_engine.proofs.There.Taking.{told_taken}
 use Rattle.vl_engine.specs.Sweeping.{RemovesOne, TakesIfLent}
 use Rattle.vl_pins.specs.declared.retired_file.RetiredFile.{RetiredFile}
 use Rattle.vl_recover.specs.laws.crash.OneName.{elsewhere_then}
-use Rattle.vl_core.specs.laws.KeptLaws.{nothing_elsewhere}
+use Rattle.vl_engine_laws.specs.laws.KeptLaws.{nothing_elsewhere}
 
 -- beside this name the same files stand, and were removed
 abbrev pub StandBeside : Name → (old new : Option DiskState) → Type 0

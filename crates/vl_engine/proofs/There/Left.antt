@@ -9,9 +9,9 @@ use Rattle.std.proofs.Common.{sym, subst, ap, ◌∙◌, arith}
 use Rattle.std.proofs.lemmas.Bool.{eq-eqb, eqb-true}
 use Rattle.std.proofs.lemmas.List.Elements.{All-from_recursion, recursion_from_All}
 use Rattle.vl_compact.specs.declared.files.Lent.{Lent}
-use Rattle.vl_core.specs.Fit.{IsFitFor}
-use Rattle.vl_core.specs.Represents.{file_of}
-use Rattle.vl_core.specs.declared.kept.Core.{Core}
+use Rattle.vl_engine_laws.specs.Fit.{IsFitFor}
+use Rattle.vl_engine_laws.specs.Represents.{file_of}
+use Rattle.vl_engine_laws.specs.declared.kept.Core.{Core}
 use Rattle.vl_disk.specs.Disk.{IsFree, Stands}
 use Rattle.vl_disk.specs.DiskState.{DiskState}
 use Rattle.vl_disk.specs.declared.name.Name.{Name}
@@ -24,8 +24,8 @@ use Rattle.vl_engine.specs.Lent.{AreLent, IsLent}
 use Rattle.vl_engine.specs.Removing.{HasInUse, IsThere, IsWaiting, are_distinct, are_unused, is_none_of, is_unused, lent_in}
 use Rattle.vl_engine.specs.Removing.{logs_in_use, numbers_left, standing_names, tables_in_use, with_number, with_standing}
 use Rattle.vl_engine.specs.declared.open.OpenMerge.{OpenMerge}
-use Rattle.vl_layout.specs.Rulings.Sweep.{is_same}
-use Rattle.vl_layout.specs.Stock.{is_in}
+use Rattle.vl_engine_model.specs.Rulings.Sweep.{is_same}
+use Rattle.vl_engine_model.specs.Stock.{is_in}
 use Rattle.vl_model.specs.Numbers.{has}
 use Rattle.vl_pins.specs.declared.retired_file.RetiredFile.{RetiredFile}
 use Rattle.vl_pins.specs.declared.stock.Stock.{Stock}

@@ -7,8 +7,8 @@ use Rattle.std.specs.VecDeque.{deque_capacity, deque_len}
 use Rattle.std.proofs.Common.{sym, subst, ap, ◌∙◌, arith}
 use Rattle.std.proofs.lemmas.List.Elements.{recursion_from_All}
 use Rattle.vl_compact.specs.declared.files.Lent.{Lent}
-use Rattle.vl_core.specs.Fit.{IsFitFor}
-use Rattle.vl_core.specs.declared.kept.Core.{Core}
+use Rattle.vl_engine_laws.specs.Fit.{IsFitFor}
+use Rattle.vl_engine_laws.specs.declared.kept.Core.{Core}
 use Rattle.vl_disk.specs.declared.errors.Failed.{Failed}
 use Rattle.vl_disk.specs.declared.watched.Watched.{Ghosts}
 use Rattle.vl_disk.specs.declared.writer.Writer.{Ghosts as Writers}

@@ -10,27 +10,27 @@ use Rattle.vl_back.specs.InstallEdits.{Replacing, install_switch, left_levels, l
 use Rattle.vl_back.specs.InstallSays.{CanReplace, install_either, install_says, levels_then, replaced_state}
 use Rattle.vl_disk.specs.DiskState.{DiskState, settled}
 use Rattle.vl_disk.specs.declared.name.Name.TheVariants as names
-use Rattle.vl_core.specs.Files.{HoldsTable, bytes_of_table}
-use Rattle.vl_core.specs.Held.{Base, Holds, IsBase, frames_of}
-use Rattle.vl_core.specs.Pointed.{layout_logs}
-use Rattle.vl_core.specs.laws.HeldLaws.{base_says}
+use Rattle.vl_engine_laws.specs.Files.{HoldsTable, bytes_of_table}
+use Rattle.vl_engine_laws.specs.Held.{Base, Holds, IsBase, frames_of}
+use Rattle.vl_engine_laws.specs.Pointed.{layout_logs}
+use Rattle.vl_engine_laws.specs.laws.HeldLaws.{base_says}
 use Rattle.vl_engine.specs.laws.InstallPlaces.{IsPutAt, place, put_at_place}
-use Rattle.vl_layout.specs.Jobs.{AreDistinct, AreLent, AreOutputs, Made, lent_numbers}
-use Rattle.vl_layout.specs.Levels.{is_among, without}
-use Rattle.vl_layout.specs.Merging.{drops_by_need, gone_after, if_so, inputs_of, is_below, is_needless}
-use Rattle.vl_layout.specs.Merging.{is_needless_one, is_outdated, is_shadowed, needless, needless_from, outside_of}
-use Rattle.vl_layout.specs.OpenJobs.{IsOpenWell}
-use Rattle.vl_layout.specs.Rulings.Install.{installed}
-use Rattle.vl_layout.specs.Sources.{numbers_of, tables}
-use Rattle.vl_layout.specs.Tidy.{IsTidy}
-use Rattle.vl_layout.specs.declared.job.Job.{Job}
-use Rattle.vl_layout.specs.declared.job.OpenJob.{OpenJob}
-use Rattle.vl_layout.specs.declared.layout.Layout.{Layout}
-use Rattle.vl_layout.specs.declared.table.Table.{Table}
-use Rattle.vl_layout_laws.specs.laws.Files.{all_parts}
-use Rattle.vl_layout_laws.specs.laws.Gone.{raised-kept, raised-least}
-use Rattle.vl_layout_laws.specs.laws.InstallTidy.{lent_here}
-use Rattle.vl_layout_laws.specs.laws.WellInstalled.{not_standing}
+use Rattle.vl_engine_model.specs.Jobs.{AreDistinct, AreLent, AreOutputs, Made, lent_numbers}
+use Rattle.vl_engine_model.specs.Levels.{is_among, without}
+use Rattle.vl_engine_model.specs.Merging.{drops_by_need, gone_after, if_so, inputs_of, is_below, is_needless}
+use Rattle.vl_engine_model.specs.Merging.{is_needless_one, is_outdated, is_shadowed, needless, needless_from, outside_of}
+use Rattle.vl_engine_model.specs.OpenJobs.{IsOpenWell}
+use Rattle.vl_engine_model.specs.Rulings.Install.{installed}
+use Rattle.vl_engine_model.specs.Sources.{numbers_of, tables}
+use Rattle.vl_engine_model.specs.Tidy.{IsTidy}
+use Rattle.vl_engine_model.specs.declared.job.Job.{Job}
+use Rattle.vl_engine_model.specs.declared.job.OpenJob.{OpenJob}
+use Rattle.vl_engine_model.specs.declared.layout.Layout.{Layout}
+use Rattle.vl_engine_model.specs.declared.table.Table.{Table}
+use Rattle.vl_engine_model_laws.specs.laws.Files.{all_parts}
+use Rattle.vl_engine_model_laws.specs.laws.Gone.{raised-kept, raised-least}
+use Rattle.vl_engine_model_laws.specs.laws.InstallTidy.{lent_here}
+use Rattle.vl_engine_model_laws.specs.laws.WellInstalled.{not_standing}
 use Rattle.vl_manifest.specs.Levels.{all_tables, is_in}
 use Rattle.vl_manifest.specs.Manifest.{manifest_bytes}
 use Rattle.vl_manifest.specs.States.{are_next, is_file_number, is_gone, next_state}

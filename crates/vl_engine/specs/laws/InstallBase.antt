@@ -4,35 +4,35 @@ use Rattle.std.specs.Prelude.{◌≡◌, ℕ, ◌+◌, true, not, List, [], ◌�
 use Rattle.std.specs.List.{AllByRecursion}
 use Rattle.std.proofs.Common.{sym, ap, ◌∙◌, arith}
 use Rattle.std.proofs.lemmas.Bool.Decides.{nat_tests}
-use Rattle.vl_block.specs.Cutting.{points_of}
-use Rattle.vl_block.specs.declared.points.Point.{Point}
+use Rattle.vl_model.specs.Cutting.{points_of}
+use Rattle.vl_model.specs.declared.point.Point.{Point}
 use Rattle.vl_disk.specs.DiskState.{DiskState}
-use Rattle.vl_core.specs.Files.{HoldsLog, HoldsTable, IsLogFile, found_levels}
-use Rattle.vl_core.specs.Held.{Base, Holds, HoldsFiles, IsBase}
-use Rattle.vl_core.specs.Pointed.{IsFramedAmong, layout_logs}
-use Rattle.vl_core.specs.laws.FileLaws.{all_each, all_filtered, all_front}
-use Rattle.vl_core.specs.laws.FlushBase.{state_more}
-use Rattle.vl_core.specs.laws.FlushTidy.{IsThere, IsWider, tables_far}
-use Rattle.vl_core.specs.laws.HeldLaws.{sources_held}
+use Rattle.vl_engine_laws.specs.Files.{HoldsLog, HoldsTable, IsLogFile, found_levels}
+use Rattle.vl_engine_laws.specs.Held.{Base, Holds, HoldsFiles, IsBase}
+use Rattle.vl_engine_laws.specs.Pointed.{IsFramedAmong, layout_logs}
+use Rattle.vl_engine_laws.specs.laws.FileLaws.{all_each, all_filtered, all_front}
+use Rattle.vl_engine_laws.specs.laws.FlushBase.{state_more}
+use Rattle.vl_engine_laws.specs.laws.FlushTidy.{IsThere, IsWider, tables_far}
+use Rattle.vl_engine_laws.specs.laws.HeldLaws.{sources_held}
 use Rattle.vl_engine.specs.laws.InstallApplies.{edits_of, install_applies, levels_are, state}
-use Rattle.vl_core.specs.laws.InstallRulings.{GoesOn}
-use Rattle.vl_core.specs.laws.InstallSpares.{rest_spares_installed}
-use Rattle.vl_core.specs.laws.InstallTidy.{IsPutTidy, each_entry_put, logs_put, still_put, each_put, tidy_put}
-use Rattle.vl_core.specs.laws.LedLaws.{AreFarTo, IsFarTo, among_in, led_in, points_led}
-use Rattle.vl_core.specs.laws.SwitchLaws.{switched_base}
+use Rattle.vl_engine_laws.specs.laws.InstallRulings.{GoesOn}
+use Rattle.vl_engine_laws.specs.laws.InstallSpares.{rest_spares_installed}
+use Rattle.vl_engine_laws.specs.laws.InstallTidy.{IsPutTidy, each_entry_put, logs_put, still_put, each_put, tidy_put}
+use Rattle.vl_engine_laws.specs.laws.LedLaws.{AreFarTo, IsFarTo, among_in, led_in, points_led}
+use Rattle.vl_engine_laws.specs.laws.SwitchLaws.{switched_base}
 use Rattle.vl_frame.specs.Runs.{HasFrame}
-use Rattle.vl_layout.specs.Jobs.{AreLent, AreOutputs, Made}
-use Rattle.vl_layout.specs.Ruling.{is_idle}
-use Rattle.vl_layout.specs.Rulings.Install.{installed, put_in}
-use Rattle.vl_layout.specs.Start.{has_frames}
-use Rattle.vl_layout.specs.Sources.{tables}
-use Rattle.vl_layout.specs.Stock.{is_into}
-use Rattle.vl_layout.specs.Tidy.{IsTidy, sealed}
-use Rattle.vl_layout.specs.declared.job.OpenJob.{OpenJob}
-use Rattle.vl_layout.specs.declared.layout.Layout.{Layout}
-use Rattle.vl_layout.specs.declared.segment.Segment.{Segment}
-use Rattle.vl_layout.specs.declared.table.Table.{Table}
-use Rattle.vl_layout_laws.specs.laws.JobTables.{IsIntoWell, entries_into, of_each_point}
+use Rattle.vl_engine_model.specs.Jobs.{AreLent, AreOutputs, Made}
+use Rattle.vl_engine_model.specs.Ruling.{is_idle}
+use Rattle.vl_engine_model.specs.Rulings.Install.{installed, put_in}
+use Rattle.vl_engine_model.specs.Start.{has_frames}
+use Rattle.vl_engine_model.specs.Sources.{tables}
+use Rattle.vl_engine_model.specs.Stock.{is_into}
+use Rattle.vl_engine_model.specs.Tidy.{IsTidy, sealed}
+use Rattle.vl_engine_model.specs.declared.job.OpenJob.{OpenJob}
+use Rattle.vl_engine_model.specs.declared.layout.Layout.{Layout}
+use Rattle.vl_engine_model.specs.declared.segment.Segment.{Segment}
+use Rattle.vl_engine_model.specs.declared.table.Table.{Table}
+use Rattle.vl_engine_model_laws.specs.laws.JobTables.{IsIntoWell, entries_into, of_each_point}
 use Rattle.vl_manifest.specs.Grammar.{edits_grammar}
 use Rattle.vl_manifest.specs.States.{are_next}
 use Rattle.vl_model.specs.Formats.{manifest_format}

@@ -7,21 +7,21 @@ use Rattle.vl_disk.specs.DiskState.{DiskState, File, appended, settled}
 use Rattle.vl_disk.specs.declared.name.Name.TheVariants as names
 use Rattle.vl_disk.specs.laws.Lawful.{appended_lawful, synced_lawful}
 use Rattle.vl_disk.specs.laws.NameMap.{same_or_other}
-use Rattle.vl_core.specs.Held.{Base, Holds, HoldsBase, HoldsFiles, IsBase, frames_of}
-use Rattle.vl_core.specs.Pointed.{layout_logs}
-use Rattle.vl_core.specs.Shown.{LeavesBetween}
+use Rattle.vl_engine_laws.specs.Held.{Base, Holds, HoldsBase, HoldsFiles, IsBase, frames_of}
+use Rattle.vl_engine_laws.specs.Pointed.{layout_logs}
+use Rattle.vl_engine_laws.specs.Shown.{LeavesBetween}
 use Rattle.vl_engine.specs.laws.InstallApplies.{edits_of}
 use Rattle.vl_engine.specs.laws.InstallBase.{CanInstall, base_then, files_then, later, next, tidy_then}
-use Rattle.vl_core.specs.laws.InstallRulings.{install_made_so}
-use Rattle.vl_core.specs.laws.KeptLaws.{written_elsewhere}
-use Rattle.vl_core.specs.laws.OpensAgain.{switching_opens_again}
-use Rattle.vl_core.specs.laws.SwitchLaws.{switch_frame, switch_holds, switch_keeps, switching_shows}
-use Rattle.vl_layout.specs.Jobs.{Made}
-use Rattle.vl_layout.specs.Ruling.{Ruling}
-use Rattle.vl_layout.specs.Rulings.Install.{InstallAnswer, install_ruling}
-use Rattle.vl_layout.specs.Tidy.{IsTidy}
-use Rattle.vl_layout.specs.declared.job.OpenJob.{OpenJob}
-use Rattle.vl_layout.specs.declared.layout.Layout.{Layout}
+use Rattle.vl_engine_laws.specs.laws.InstallRulings.{install_made_so}
+use Rattle.vl_engine_laws.specs.laws.KeptLaws.{written_elsewhere}
+use Rattle.vl_engine_laws.specs.laws.OpensAgain.{switching_opens_again}
+use Rattle.vl_engine_laws.specs.laws.SwitchLaws.{switch_frame, switch_holds, switch_keeps, switching_shows}
+use Rattle.vl_engine_model.specs.Jobs.{Made}
+use Rattle.vl_engine_model.specs.Ruling.{Ruling}
+use Rattle.vl_engine_model.specs.Rulings.Install.{InstallAnswer, install_ruling}
+use Rattle.vl_engine_model.specs.Tidy.{IsTidy}
+use Rattle.vl_engine_model.specs.declared.job.OpenJob.{OpenJob}
+use Rattle.vl_engine_model.specs.declared.layout.Layout.{Layout}
 use Rattle.vl_manifest.specs.Manifest.{manifest_bytes}
 use Rattle.vl_manifest.specs.Switching.{WhileSwitching, switched}
 use Rattle.vl_model.specs.History.{History, last_number}

@@ -6,14 +6,14 @@ use Rattle.std.specs.Option.{option_map}
 use Rattle.std.proofs.Common.{sym, ap, subst, ◌∙◌, arith, append-nil}
 use Rattle.std.proofs.lemmas.Bool.Decides.{nat_tests}
 use Rattle.vl_compact.specs.Places.{count_before, found_at, index_of, place_from, place_of}
-use Rattle.vl_layout.specs.Levels.{at_level, in_key_order, is_among, is_before, level_at, replaced, without}
-use Rattle.vl_layout.specs.OpenJobs.{IsFitted, IsIdle, IsRoomy}
-use Rattle.vl_layout.specs.Sources.{tables}
-use Rattle.vl_layout.specs.declared.job.Job.{Job}
-use Rattle.vl_layout.specs.declared.job.Target.TheVariants.{InPlace, Level}
-use Rattle.vl_layout.specs.declared.job.Target.{Target}
-use Rattle.vl_layout.specs.declared.layout.Layout.{Layout}
-use Rattle.vl_layout.specs.declared.table.Table.{Table}
+use Rattle.vl_engine_model.specs.Levels.{at_level, in_key_order, is_among, is_before, level_at, replaced, without}
+use Rattle.vl_engine_model.specs.OpenJobs.{IsFitted, IsIdle, IsRoomy}
+use Rattle.vl_engine_model.specs.Sources.{tables}
+use Rattle.vl_engine_model.specs.declared.job.Job.{Job}
+use Rattle.vl_engine_model.specs.declared.job.Target.TheVariants.{InPlace, Level}
+use Rattle.vl_engine_model.specs.declared.job.Target.{Target}
+use Rattle.vl_engine_model.specs.declared.layout.Layout.{Layout}
+use Rattle.vl_engine_model.specs.declared.table.Table.{Table}
 
 -- ---- the place
 

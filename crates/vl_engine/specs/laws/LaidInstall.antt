@@ -6,24 +6,24 @@ use Rattle.std.specs.declared.cmp.Ordering.{Ordering}
 use Rattle.std.specs.declared.cmp.Ordering.TheVariants.{Equal, Greater, Less}
 use Rattle.std.proofs.Common.{sym, ap, subst, ◌∙◌, arith}
 use Rattle.std.proofs.lemmas.Bool.Decides.{nat_tests}
-use Rattle.vl_block.specs.Footer.{Foot}
-use Rattle.vl_core.specs.Laid.{AreLevelsOf, AreTablesOf, HasLayout, IsMemtableOf, IsTableOf}
+use Rattle.vl_table.specs.body.Footer.{Foot}
+use Rattle.vl_engine_laws.specs.Laid.{AreLevelsOf, AreTablesOf, HasLayout, IsMemtableOf, IsTableOf}
 use Rattle.vl_disk.specs.DiskState.{DiskState}
-use Rattle.vl_core.specs.Held.{Base, Holds, IsBase}
-use Rattle.vl_core.specs.Pointed.{layout_logs}
-use Rattle.vl_core.specs.laws.FileLaws.{all_back, all_front}
-use Rattle.vl_core.specs.laws.FlushTidy.{IsWider}
+use Rattle.vl_engine_laws.specs.Held.{Base, Holds, IsBase}
+use Rattle.vl_engine_laws.specs.Pointed.{layout_logs}
+use Rattle.vl_engine_laws.specs.laws.FileLaws.{all_back, all_front}
+use Rattle.vl_engine_laws.specs.laws.FlushTidy.{IsWider}
 use Rattle.vl_engine.specs.laws.InstallBase.{CanInstall, stays, tidy_then}
-use Rattle.vl_core.specs.laws.SharedLaws.{below_shared, logs_shared, told_shared}
-use Rattle.vl_layout.specs.Jobs.{Made}
-use Rattle.vl_layout.specs.Levels.{level_at}
-use Rattle.vl_layout.specs.Rulings.Install.{installed}
-use Rattle.vl_layout.specs.Tidy.{IsTidy, IsTrueTable, sealed}
-use Rattle.vl_layout.specs.TidyLevels.{AreLevels, IsApart}
-use Rattle.vl_layout.specs.declared.job.Job.{Job}
-use Rattle.vl_layout.specs.declared.job.OpenJob.{OpenJob}
-use Rattle.vl_layout.specs.declared.layout.Layout.{Layout}
-use Rattle.vl_layout.specs.declared.table.Table as laid
+use Rattle.vl_engine_laws.specs.laws.SharedLaws.{below_shared, logs_shared, told_shared}
+use Rattle.vl_engine_model.specs.Jobs.{Made}
+use Rattle.vl_engine_model.specs.Levels.{level_at}
+use Rattle.vl_engine_model.specs.Rulings.Install.{installed}
+use Rattle.vl_engine_model.specs.Tidy.{IsTidy, IsTrueTable, sealed}
+use Rattle.vl_engine_model.specs.TidyLevels.{AreLevels, IsApart}
+use Rattle.vl_engine_model.specs.declared.job.Job.{Job}
+use Rattle.vl_engine_model.specs.declared.job.OpenJob.{OpenJob}
+use Rattle.vl_engine_model.specs.declared.layout.Layout.{Layout}
+use Rattle.vl_engine_model.specs.declared.table.Table as laid
 use Rattle.vl_memtable.specs.Contents.{Contents}
 use Rattle.vl_memtable.specs.declared.frozen_log.FrozenLog.{FrozenLog}
 use Rattle.vl_model.specs.History.{History}

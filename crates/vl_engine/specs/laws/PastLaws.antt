@@ -4,8 +4,8 @@ use Rattle.std.proofs.lemmas.Bool.Decides.{nat_tests}
 use Rattle.std.specs.Prelude.{◌==◌, min, nat_lt, Option, Some, None}
 use Rattle.vl_engine.specs.Past.{ShowsPast, if_above}
 use Rattle.vl_engine.specs.declared.past.Past.{Past}
-use Rattle.vl_core.specs.laws.SparedLaws.{low_stays}
-use Rattle.vl_layout.specs.laws.LowShows.{shows-extends}
+use Rattle.vl_engine_laws.specs.laws.SparedLaws.{low_stays}
+use Rattle.vl_engine_model.specs.laws.LowShows.{shows-extends}
 use Rattle.vl_model.specs.History.{Extends, History, last_number}
 use Rattle.vl_model.specs.Numbers.{at_least, low_of, nth_below}
 use Rattle.vl_model.specs.Versions.{low}

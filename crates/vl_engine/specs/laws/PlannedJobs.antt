@@ -7,23 +7,23 @@ use Rattle.vl_compact.specs.Laid.{AreBoth}
 use Rattle.vl_compact.specs.Progress.{IsJobOf}
 use Rattle.vl_compact.specs.declared.job.Job.{Job}
 use Rattle.vl_disk.specs.declared.writer.Writer.{Ghosts as Writers}
-use Rattle.vl_core.specs.Laid.{AreTablesOf, HasLayout, IsMemtableOf, IsTableOf, by_level}
-use Rattle.vl_core.specs.Pointed.{layout_logs}
-use Rattle.vl_core.specs.Represents.{StandsFor}
-use Rattle.vl_core.specs.declared.kept.Core.{Core}
-use Rattle.vl_core.specs.laws.LaidTables.{tables_are}
-use Rattle.vl_core.specs.laws.LiveLaws.{same_floor}
-use Rattle.vl_core.specs.laws.PlanSources.{IsPart, sourced_part}
-use Rattle.vl_layout.specs.Levels.{is_among}
-use Rattle.vl_layout.specs.Logs.{memtable}
-use Rattle.vl_layout.specs.Rulings.Plan.{job_of, sourced}
-use Rattle.vl_layout.specs.Sources.{floor, numbers_of, table_entries, tables}
-use Rattle.vl_layout.specs.Tidy.{IsTidy, IsTrueTable}
-use Rattle.vl_layout.specs.declared.job.Target.{Target}
-use Rattle.vl_layout.specs.declared.layout.Layout.{Layout}
-use Rattle.vl_layout.specs.declared.segment.Segment.{Segment}
-use Rattle.vl_layout.specs.declared.table.Table as laid
-use Rattle.vl_layout_laws.specs.laws.Pairs.{all_parts}
+use Rattle.vl_engine_laws.specs.Laid.{AreTablesOf, HasLayout, IsMemtableOf, IsTableOf, by_level}
+use Rattle.vl_engine_laws.specs.Pointed.{layout_logs}
+use Rattle.vl_engine_laws.specs.Represents.{StandsFor}
+use Rattle.vl_engine_laws.specs.declared.kept.Core.{Core}
+use Rattle.vl_engine_laws.specs.laws.LaidTables.{tables_are}
+use Rattle.vl_engine_laws.specs.laws.LiveLaws.{same_floor}
+use Rattle.vl_engine_laws.specs.laws.PlanSources.{IsPart, sourced_part}
+use Rattle.vl_engine_model.specs.Levels.{is_among}
+use Rattle.vl_engine_model.specs.Logs.{memtable}
+use Rattle.vl_engine_model.specs.Rulings.Plan.{job_of, sourced}
+use Rattle.vl_engine_model.specs.Sources.{floor, numbers_of, table_entries, tables}
+use Rattle.vl_engine_model.specs.Tidy.{IsTidy, IsTrueTable}
+use Rattle.vl_engine_model.specs.declared.job.Target.{Target}
+use Rattle.vl_engine_model.specs.declared.layout.Layout.{Layout}
+use Rattle.vl_engine_model.specs.declared.segment.Segment.{Segment}
+use Rattle.vl_engine_model.specs.declared.table.Table as laid
+use Rattle.vl_engine_model_laws.specs.laws.Pairs.{all_parts}
 use Rattle.vl_memtable.specs.declared.frozen_log.FrozenLog.{FrozenLog}
 use Rattle.vl_merge.specs.Marked.{Marked}
 use Rattle.vl_model.specs.History.{History}

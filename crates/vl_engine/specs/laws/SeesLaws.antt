@@ -3,20 +3,20 @@ use Rattle.std.specs.Prelude.{◌≡◌, ◌≢◌, ◌≤◌, ◌==◌, ℕ, Bo
 use Rattle.std.specs.List.{AllByRecursion, AllZip}
 use Rattle.std.proofs.Common.{ap, arith, length-append, sym, ◌∙◌}
 use Rattle.std.proofs.lemmas.Bool.Decides.{nat_tests}
-use Rattle.vl_core.specs.Laid.{HasLayout, IsTableOf}
-use Rattle.vl_core.specs.laws.LaidTables.{tables_are}
+use Rattle.vl_engine_laws.specs.Laid.{HasLayout, IsTableOf}
+use Rattle.vl_engine_laws.specs.laws.LaidTables.{tables_are}
 use Rattle.vl_engine.specs.Sees.{Sees, SeesAlone, ShowsAt}
 use Rattle.vl_engine.specs.declared.past.Past.{Past}
 use Rattle.vl_engine.specs.declared.txn.Txn.{Txn}
 use Rattle.vl_engine.specs.declared.view.View.{View}
 use Rattle.vl_engine.specs.laws.PastLaws.{past_later}
-use Rattle.vl_layout.specs.Shown.{ShowsLow, low_at}
-use Rattle.vl_layout.specs.Shows.{Shows}
-use Rattle.vl_layout.specs.Sources.{floor, sources, tables}
-use Rattle.vl_layout.specs.TidyLevels.{AreLevels, IsDistinct}
-use Rattle.vl_layout.specs.declared.layout.Layout.{Layout}
-use Rattle.vl_layout.specs.declared.table.Table as laid
-use Rattle.vl_layout.specs.laws.LowShows.{floor-up, low_up, shows-extends, shows_from}
+use Rattle.vl_engine_model.specs.Shown.{ShowsLow, low_at}
+use Rattle.vl_engine_model.specs.Shows.{Shows}
+use Rattle.vl_engine_model.specs.Sources.{floor, sources, tables}
+use Rattle.vl_engine_model.specs.TidyLevels.{AreLevels, IsDistinct}
+use Rattle.vl_engine_model.specs.declared.layout.Layout.{Layout}
+use Rattle.vl_engine_model.specs.declared.table.Table as laid
+use Rattle.vl_engine_model.specs.laws.LowShows.{floor-up, low_up, shows-extends, shows_from}
 use Rattle.vl_model.specs.History.{Extends, History, last_number}
 use Rattle.vl_model.specs.Winners.{Logs}
 use Rattle.vl_model.specs.Reads.{Read}

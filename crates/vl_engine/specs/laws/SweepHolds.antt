@@ -3,13 +3,13 @@ use Rattle.std.specs.Prelude.{◌≡◌, ◌≢◌, ◌≤◌, ◌⊎◌, ℕ, S
 use Rattle.std.specs.FinMap.{get}
 use Rattle.std.specs.Option.{ForSome}
 use Rattle.std.proofs.Common.{sym, ap, subst, ◌∙◌, arith, inl, inr, ⊎_elim}
-use Rattle.vl_core.specs.Held.{Base, Holds, HoldsBase, HoldsFiles, IsBase}
-use Rattle.vl_core.specs.Pointed.{layout_logs}
-use Rattle.vl_core.specs.Shown.{LeavesBetween}
-use Rattle.vl_core.specs.laws.HeldLaws.{held_opens_again, needed_shows}
-use Rattle.vl_core.specs.laws.IdleLaws.{IsIdleIn, idle_beside, without_idle}
-use Rattle.vl_core.specs.laws.InstallBeside.{opens_beside}
-use Rattle.vl_core.specs.laws.KeptLaws.{AreOtherLogs, AreOtherTables, base_kept, files_kept, nothing_elsewhere}
+use Rattle.vl_engine_laws.specs.Held.{Base, Holds, HoldsBase, HoldsFiles, IsBase}
+use Rattle.vl_engine_laws.specs.Pointed.{layout_logs}
+use Rattle.vl_engine_laws.specs.Shown.{LeavesBetween}
+use Rattle.vl_engine_laws.specs.laws.HeldLaws.{held_opens_again, needed_shows}
+use Rattle.vl_engine_laws.specs.laws.IdleLaws.{IsIdleIn, idle_beside, without_idle}
+use Rattle.vl_engine_laws.specs.laws.InstallBeside.{opens_beside}
+use Rattle.vl_engine_laws.specs.laws.KeptLaws.{AreOtherLogs, AreOtherTables, base_kept, files_kept, nothing_elsewhere}
 use Rattle.vl_disk.specs.Changes.{SameElsewhere, without_elsewhere}
 use Rattle.vl_disk.specs.Crash.{WhileRemoving}
 use Rattle.vl_disk.specs.DiskState.{DiskState, File, IsLawful, without}
@@ -18,9 +18,9 @@ use Rattle.vl_disk.specs.declared.name.Name.{Name}
 use Rattle.vl_disk.specs.declared.name.Name.TheVariants.{Log, Manifest, Table}
 use Rattle.vl_disk.specs.laws.Lawful.{without_lawful}
 use Rattle.vl_disk.specs.laws.NameMap.{get_inserted_other, get_removed, get_removed_other, same_or_other}
-use Rattle.vl_layout.specs.Sources.{tables}
-use Rattle.vl_layout.specs.Tidy.{IsTidy}
-use Rattle.vl_layout.specs.declared.layout.Layout.{Layout}
+use Rattle.vl_engine_model.specs.Sources.{tables}
+use Rattle.vl_engine_model.specs.Tidy.{IsTidy}
+use Rattle.vl_engine_model.specs.declared.layout.Layout.{Layout}
 use Rattle.vl_model.specs.History.{History, last_number}
 use Rattle.vl_recover.specs.crash.Starts.{MayOpen}
 use Rattle.vl_recover.specs.laws.crash.OneName.{elsewhere_then}

@@ -1,8 +1,8 @@
 ghost use Rattle.std.specs.Prelude.{◌≡◌};
-ghost use Rattle.vl_core.specs.Represents.{Fronts, Represents, StandsFor};
-ghost use Rattle.vl_core.specs.MayStep.{Fits};
-ghost use Rattle.vl_layout.specs.Ruling.{ended};
-ghost use Rattle.vl_layout.specs.declared.layout.Layout.{Layout};
+ghost use Rattle.vl_engine_laws.specs.Represents.{Fronts, Represents, StandsFor};
+ghost use Rattle.vl_engine_laws.specs.MayStep.{Fits};
+ghost use Rattle.vl_engine_model.specs.Ruling.{ended};
+ghost use Rattle.vl_engine_model.specs.declared.layout.Layout.{Layout};
 ghost use Rattle.vl_model.specs.History.{History, last_number};
 ghost use Rattle.vl_engine.specs.Pinning.{unpinned};
 ghost use Rattle.vl_engine.specs.Removing.{Removes};

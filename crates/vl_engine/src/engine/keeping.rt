@@ -3,25 +3,25 @@ ghost use Rattle.vl_disk.specs.Calls.{ChangesNothing};
 ghost use Rattle.vl_disk.specs.DiskState.{DiskState};
 ghost use Rattle.vl_disk.specs.Faults.{HasCause, after_calls};
 ghost use Rattle.vl_disk.specs.declared.name.Name.{Name};
-ghost use Rattle.vl_core.specs.Carries.{Carries, SameFiles, StaysUntold};
+ghost use Rattle.vl_engine_laws.specs.Carries.{Carries, SameFiles, StaysUntold};
 ghost use Rattle.vl_engine.specs.Keeping.{KeepFailed, KeepLeavesDisk, KeepsAs};
-ghost use Rattle.vl_core.specs.KeepFacts.{IsKeepWritten, MayKeep, StopsKeeping};
+ghost use Rattle.vl_engine_laws.specs.KeepFacts.{IsKeepWritten, MayKeep, StopsKeeping};
 ghost use Rattle.vl_engine.specs.Keeping.{keep_calls, keep_effects, keep_outcome};
-ghost use Rattle.vl_core.specs.KeepFacts.{WritesKeep};
-ghost use Rattle.vl_core.specs.KeepFacts as facts;
-ghost use Rattle.vl_core.specs.Represents.{Fronts, Represents, StandsFor};
-ghost use Rattle.vl_core.specs.MayStep.{Fits, LeavesNumbers};
+ghost use Rattle.vl_engine_laws.specs.KeepFacts.{WritesKeep};
+ghost use Rattle.vl_engine_laws.specs.KeepFacts as facts;
+ghost use Rattle.vl_engine_laws.specs.Represents.{Fronts, Represents, StandsFor};
+ghost use Rattle.vl_engine_laws.specs.MayStep.{Fits, LeavesNumbers};
 ghost use Rattle.vl_engine.specs.declared.fails.KeepFail.TheVariants as fails;
-ghost use Rattle.vl_layout.specs.Decides.{Decides, as_before};
-ghost use Rattle.vl_layout.specs.Rulings.Keep.{keep_ruling};
-ghost use Rattle.vl_layout.specs.declared.layout.Layout.{Layout};
+ghost use Rattle.vl_engine_model.specs.Decides.{Decides, as_before};
+ghost use Rattle.vl_engine_model.specs.Rulings.Keep.{keep_ruling};
+ghost use Rattle.vl_engine_model.specs.declared.layout.Layout.{Layout};
 ghost use Rattle.vl_manifest.specs.declared.staged.StagedEdits.{StagedEdits};
 ghost use Rattle.vl_model.specs.History.{History};
 ghost use Rattle.vl_engine.specs.Removing.{Removes};
 
 use crate::{Engine, KeepFail};
-use vl_core::Core;
 use vl_disk::{Disk, HeldFile, Name};
+use vl_engine_laws::Core;
 use vl_manifest::Edit;
 
 // How many of the newest versions of a key may be kept.

@@ -3,13 +3,13 @@ ghost use Rattle.vl_engine.specs.Collecting.{Collects};
 ghost use Rattle.vl_engine.specs.Installing.{IsHandedIn};
 ghost use Rattle.vl_engine.specs.Merging.{FitsReaders, HasMerge, StandsOpen};
 ghost use Rattle.vl_engine.specs.Removing.{Removes};
-ghost use Rattle.vl_core.specs.Represents.{Represents};
-ghost use Rattle.vl_core.specs.MayStep.{Fits};
+ghost use Rattle.vl_engine_laws.specs.Represents.{Represents};
+ghost use Rattle.vl_engine_laws.specs.MayStep.{Fits};
 ghost use Rattle.vl_engine.specs.UnderWay.{GivesUp, IfHandedBack, IsUnderWay};
 ghost use Rattle.vl_engine.specs.Whole.{MakesRemoving, MakesTables, StaysCollecting, StaysFor, StaysRemoving, kept_of};
-ghost use Rattle.vl_layout.specs.Rulings.Plan.{plan_ruling};
-ghost use Rattle.vl_layout.specs.declared.job.OpenJob.{OpenJob};
-ghost use Rattle.vl_layout.specs.declared.layout.Layout.{Layout};
+ghost use Rattle.vl_engine_model.specs.Rulings.Plan.{plan_ruling};
+ghost use Rattle.vl_engine_model.specs.declared.job.OpenJob.{OpenJob};
+ghost use Rattle.vl_engine_model.specs.declared.layout.Layout.{Layout};
 ghost use Rattle.vl_model.specs.History.{History};
 
 use crate::{Engine, InstallFail, MergeFail};

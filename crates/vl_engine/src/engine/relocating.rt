@@ -1,9 +1,9 @@
 ghost use Rattle.std.specs.Prelude.{◌≡◌, ◌<◌, List, Some, IsErrOf, IsTrue, Err, OnOk};
 ghost use Rattle.std.specs.List.{AllByRecursion};
-ghost use Rattle.vl_core.specs.Carries.{Carries, SameFiles, StaysUntold};
-ghost use Rattle.vl_core.specs.MayStep.{Fits};
-ghost use Rattle.vl_core.specs.Represents.{Represents};
-ghost use Rattle.vl_core.specs.Writing.{StopsWriting};
+ghost use Rattle.vl_engine_laws.specs.Carries.{Carries, SameFiles, StaysUntold};
+ghost use Rattle.vl_engine_laws.specs.MayStep.{Fits};
+ghost use Rattle.vl_engine_laws.specs.Represents.{Represents};
+ghost use Rattle.vl_engine_laws.specs.Writing.{StopsWriting};
 ghost use Rattle.vl_disk.specs.Calls.{ChangesNothing};
 ghost use Rattle.vl_disk.specs.Faults.{HasCause, after_calls};
 ghost use Rattle.vl_disk.specs.declared.errors.DiskFail.TheVariants as why;
@@ -13,13 +13,13 @@ ghost use Rattle.vl_engine.specs.Merging.{StandsOpen};
 ghost use Rattle.vl_engine.specs.Relocating.{IsDamaged, IsMovable, IsOfPass, IsTableAmong, MayMove, MoveCounts, MoveLeavesDisk, MoveNotes};
 ghost use Rattle.vl_engine.specs.Relocating.{RelocatesAs, WritesMove, at, batch_back, move_effects, move_outcome, moved_version};
 ghost use Rattle.vl_engine.specs.declared.fails.MoveFail.TheVariants as fails;
-ghost use Rattle.vl_layout.specs.Decides.{Decides, as_before};
-ghost use Rattle.vl_layout.specs.Relocation as layout;
-ghost use Rattle.vl_layout.specs.Relocation.{Candidate, moved_of};
-ghost use Rattle.vl_layout.specs.Rulings.Relocate.{relocate_ruling};
-ghost use Rattle.vl_layout.specs.Sources.{sources};
-ghost use Rattle.vl_layout.specs.declared.layout.Layout.{Layout};
-ghost use Rattle.vl_layout_laws.specs.Passes.{IsSettled};
+ghost use Rattle.vl_engine_model.specs.Decides.{Decides, as_before};
+ghost use Rattle.vl_engine_model.specs.Relocation as layout;
+ghost use Rattle.vl_engine_model.specs.Relocation.{Candidate, moved_of};
+ghost use Rattle.vl_engine_model.specs.Rulings.Relocate.{relocate_ruling};
+ghost use Rattle.vl_engine_model.specs.Sources.{sources};
+ghost use Rattle.vl_engine_model.specs.declared.layout.Layout.{Layout};
+ghost use Rattle.vl_engine_model_laws.specs.Passes.{IsSettled};
 ghost use Rattle.vl_model.specs.Formats.{log_format};
 ghost use Rattle.vl_model.specs.History.{History, last_number};
 ghost use Rattle.vl_model.specs.Limits.{max_version_number};
@@ -34,8 +34,8 @@ use crate::relocating::{
 };
 use crate::writing::append_durably;
 use crate::{Engine, MoveFail};
-use vl_collect::{Batch, Pass, PassFault};
-use vl_disk::{Disk, DiskFail, Name};
+use vl_collect::{Batch, Pass};
+use vl_disk::{Disk, DiskFail, Name, ReadFault};
 use vl_model::{Counter, MAX_VERSION_NUMBER, Moved};
 use vl_seglog::ActiveLog;
 use vl_table::BlockReader;
@@ -164,12 +164,12 @@ impl<D: Disk> Engine<D> {
         }
         let moved = match records_to_move(self.alloc, &mut self.core, segment, &batch, looks) {
             Ok(moved) => moved,
-            Err(PassFault::NoMemory) => return Err(MoveFail::NoMemory(batch)),
-            Err(PassFault::Disk { name }) => {
+            Err(ReadFault::NoMemory) => return Err(MoveFail::NoMemory(batch)),
+            Err(ReadFault::Disk { name }) => {
                 self.core.front.halted = Some(name);
                 return Err(MoveFail::Read { name });
             }
-            Err(PassFault::Damaged { name, place }) => {
+            Err(ReadFault::Damaged { name, place }) => {
                 return Err(MoveFail::Damaged { batch, name, place });
             }
         };

@@ -9,12 +9,12 @@ ghost use Rattle.vl_version.specs.Past.{SeeksVersion};
 use crate::AtFail;
 use crate::past::Past;
 use std::alloc::Global;
-use vl_core::Core;
-use vl_disk::{HeldFile, Reader};
+use vl_disk::{HeldFile, ReadFault, Reader};
+use vl_engine_laws::Core;
 use vl_model::Value;
 use vl_table::BlockReader;
 use vl_txn::check_key;
-use vl_version::{ReadFault, Version};
+use vl_version::Version;
 
 /// How far back what begins now may read.
 pub fn past_of<H: HeldFile>(core: &Core<H>) -> Past

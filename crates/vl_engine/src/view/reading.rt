@@ -3,12 +3,12 @@ ghost use Rattle.std.specs.FinMap.{empty};
 ghost use Rattle.vl_disk.specs.Faults.{HasCause};
 ghost use Rattle.vl_engine.specs.Past.{AtFailed, IsAnsweredAt, IsRefusedAt, beginning};
 ghost use Rattle.vl_engine.specs.Reading.{IsFound, IsRefusedBy, IsRefusedInto, IsSound, IsSoundInto};
-ghost use Rattle.vl_core.specs.LiesOver.{IsInMemory};
+ghost use Rattle.vl_engine_laws.specs.LiesOver.{IsInMemory};
 ghost use Rattle.vl_engine.specs.Reading.{LooksUp, LooksUpInto, LooksUpTagged, OnlyReads, ReadFailed};
-ghost use Rattle.vl_core.specs.LiesOver.{LiesOver};
+ghost use Rattle.vl_engine_laws.specs.LiesOver.{LiesOver};
 ghost use Rattle.vl_engine.specs.Reading.{ReadIntoFailed, refused_bounds, rows_under, with_its_tag};
 ghost use Rattle.vl_engine.specs.Sees.{SeesAlone};
-ghost use Rattle.vl_layout.specs.AtAnswer.{at_answer};
+ghost use Rattle.vl_engine_model.specs.AtAnswer.{at_answer};
 ghost use Rattle.vl_model.specs.History.{History, value_at};
 ghost use Rattle.vl_table.specs.Kept.{Files};
 ghost use Rattle.vl_table.specs.KeptBlocks.{ReadsOf};
@@ -18,10 +18,10 @@ ghost use Rattle.vl_version.specs.Sources.{tables_in};
 use crate::past::read_past;
 use crate::txn::tagged_value;
 use crate::{AtFail, Found, ReadFail, ReadFault, Rows, View};
-use vl_disk::{HeldFile, Reader};
+use vl_disk::{HeldFile, ReadFault as VersionFault, Reader};
 use vl_model::{Value, Way};
 use vl_txn::{Writes, check_bound, check_key};
-use vl_version::{ReadFault as VersionFault, Wanted};
+use vl_version::Wanted;
 
 impl<H: HeldFile, R: Reader<Held = H> + Drop> View<H, R> {
     /// The number at which it reads: that of the last commit before it began.

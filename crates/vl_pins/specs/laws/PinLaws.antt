@@ -11,21 +11,21 @@ use Rattle.std.specs.declared.cmp.Ordering.{Ordering}
 use Rattle.std.specs.declared.cmp.Ordering.TheVariants.{Greater, Less}
 use Rattle.std.proofs.Common.{sym, ap, ◌∙◌, cond, arith}
 use Rattle.std.proofs.lemmas.Bool.Decides.{nat_tests}
-use Rattle.vl_layout.specs.Rising.{IsRising, put_by}
-use Rattle.vl_layout.specs.Ruling.{ended, pin_of}
-use Rattle.vl_layout.specs.Rulings.Begin.{begun}
-use Rattle.vl_layout.specs.Rulings.Sweep.{is_held, job_pin, pass_pin, pins as pins_of}
-use Rattle.vl_layout.specs.Tickets as tickets
-use Rattle.vl_layout.specs.Tickets.{has_ticket, tickets_of}
-use Rattle.vl_layout.specs.declared.file_name.Retired.{Retired}
-use Rattle.vl_layout.specs.declared.job.OpenJob.{OpenJob}
-use Rattle.vl_layout.specs.declared.job.OpenPass.{OpenPass}
-use Rattle.vl_layout.specs.declared.layout.Layout.{Layout}
-use Rattle.vl_layout.specs.declared.live.Live.{Live}
-use Rattle.vl_layout.specs.declared.live.Pin.{Pin}
-use Rattle.vl_layout.specs.laws.RisingLaws.{map-filter}
-use Rattle.vl_layout_laws.specs.laws.Files.{any-append, any-map, or_false}
-use Rattle.vl_layout_laws.specs.laws.Lives.{free_one}
+use Rattle.vl_engine_model.specs.Rising.{IsRising, put_by}
+use Rattle.vl_engine_model.specs.Ruling.{ended, pin_of}
+use Rattle.vl_engine_model.specs.Rulings.Begin.{begun}
+use Rattle.vl_engine_model.specs.Rulings.Sweep.{is_held, job_pin, pass_pin, pins as pins_of}
+use Rattle.vl_engine_model.specs.Tickets as tickets
+use Rattle.vl_engine_model.specs.Tickets.{has_ticket, tickets_of}
+use Rattle.vl_engine_model.specs.declared.file_name.Retired.{Retired}
+use Rattle.vl_engine_model.specs.declared.job.OpenJob.{OpenJob}
+use Rattle.vl_engine_model.specs.declared.job.OpenPass.{OpenPass}
+use Rattle.vl_engine_model.specs.declared.layout.Layout.{Layout}
+use Rattle.vl_engine_model.specs.declared.live.Live.{Live}
+use Rattle.vl_engine_model.specs.declared.live.Pin.{Pin}
+use Rattle.vl_engine_model.specs.laws.RisingLaws.{map-filter}
+use Rattle.vl_engine_model_laws.specs.laws.Files.{any-append, any-map, or_false}
+use Rattle.vl_engine_model_laws.specs.laws.Lives.{free_one}
 use Rattle.vl_oracle.specs.LiveTickets as oracle
 use Rattle.vl_oracle.specs.LiveTickets.{LiveTickets, Ticket, floor_of, least_number}
 use Rattle.vl_pins.specs.Pins.{ArePinsOf, bound_of, least, pinned_of, raised}

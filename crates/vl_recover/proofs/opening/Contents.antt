@@ -7,7 +7,7 @@ use Rattle.std.proofs.lemmas.List.{append-nil, map-append, reverse-append}
 use Rattle.std.proofs.lemmas.List.Sums.{sum_by-cons}
 use Rattle.vl_frame.specs.laws.RunLaws.{UnderWay, begins, ends, goes_on, shorter}
 use Rattle.vl_frame.specs.Runs.{StandsAt, StandsNone}
-use Rattle.vl_layout.specs.Logs.{frame_entries, logged_entries}
+use Rattle.vl_engine_model.specs.Logs.{frame_entries, logged_entries}
 use Rattle.vl_model.specs.Frames.{frame_length}
 use Rattle.vl_model.specs.declared.entry.Entry.{Entry}
 use Rattle.vl_model.specs.declared.log_frame.LogFrame.{LogFrame}

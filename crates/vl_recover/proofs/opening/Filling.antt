@@ -1,6 +1,6 @@
 -- The entries of records that were read are those that a log's frames come to.
 use Rattle.std.proofs.Common.{◌≡◌, ℕ, ◌+◌, List, [], ◌∷◌, map, refl, sym, ap, subst, ◌∙◌, arith}
-use Rattle.vl_layout.specs.Logs.{committed_records, frame_entries, logged_body, record_entry, relocated_records}
+use Rattle.vl_engine_model.specs.Logs.{committed_records, frame_entries, logged_body, record_entry, relocated_records}
 use Rattle.vl_model.specs.declared.change.Change.{Change}
 use Rattle.vl_model.specs.declared.change.Change.TheVariants.{Set}
 use Rattle.vl_model.specs.declared.pointer.Pointer.{Pointer}

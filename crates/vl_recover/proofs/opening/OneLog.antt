@@ -10,7 +10,7 @@ use Rattle.vl_disk.specs.Crash.{Image}
 use Rattle.vl_disk.specs.DiskState.{bytes_at}
 use Rattle.vl_disk.specs.declared.name.Name.TheVariants.{Log}
 use Rattle.vl_frame.specs.Runs.{ReadsAs}
-use Rattle.vl_layout.specs.Logs.{logged_entries}
+use Rattle.vl_engine_model.specs.Logs.{logged_entries}
 use Rattle.vl_seglog.specs.Frames.{frames_grammar}
 use Rattle.vl_model.specs.Entries.{in_order}
 use Rattle.vl_model.specs.declared.entry.Entry.{Entry}

@@ -11,8 +11,8 @@ use Rattle.vl_recover.specs.opening.TableFaults.{open_error}
 use Rattle.vl_table.specs.Answers.{IsAnswer, IsNamed}
 use Rattle.vl_table.specs.Opening.{IsDamaged, IsRead, said_by}
 use Rattle.vl_table.specs.Tables.{number_of, shape_of}
-use Rattle.vl_table.specs.declared.fault.TableFault.{TableFault}
-use Rattle.vl_table.specs.declared.fault.TableFault.TheVariants as faults
+use Rattle.vl_disk.specs.declared.read_fault.ReadFault.{ReadFault}
+use Rattle.vl_disk.specs.declared.read_fault.ReadFault.TheVariants as faults
 use Rattle.vl_table.specs.declared.table.Table.{Table}
 
 module _ (image : Image) (number : ℕ) (bytes : List ℕ) (stands : get image (table_file number) ≡ Some bytes) where
@@ -20,7 +20,7 @@ module _ (image : Image) (number : ℕ) (bytes : List ℕ) (stands : get image (
       → StandsTable image number (found_table t)
   table_reads t numbered reads = record { numbered = numbered; bytes = bytes; stands = stands; reads = reads }
 
-  pub table_fails : (H : Type 0) (fault : TableFault) → IsNamed {T = Table H} number (Err fault)
+  pub table_fails : (H : Type 0) (fault : ReadFault) → IsNamed {T = Table H} number (Err fault)
       → IsAnswer {T = Table H} (λ t. IsRead number bytes (said_by (shape_of t))) (IsDamaged number bytes) (Err fault)
       → IsNoTable image number (open_error fault)
   table_fails H faults.NoMemory named is = tt

@@ -1,6 +1,6 @@
 -- Worked rows of openings, which hold by computing: what logs give together, new numbers, and calls.
 use Rattle.std.specs.Prelude.{◌≡◌, ℕ, Bool, true, false, List, [], ◌∷◌, None, Some, Ok, Err, refl}
-use Rattle.vl_layout.specs.Logs.{log_length, new_segment}
+use Rattle.vl_engine_model.specs.Logs.{log_length, new_segment}
 use Rattle.vl_manifest.specs.States.{fresh_state}
 use Rattle.vl_model.specs.Formats.{log_format}
 use Rattle.vl_model.specs.declared.counter.Counter.TheVariants as counters

@@ -10,10 +10,10 @@ use Rattle.std.specs.declared.cmp.Ordering.TheVariants.{Less, Equal, Greater}
 use Rattle.vl_model.specs.Entries.{entry_cmp, is_at, in_order}
 use Rattle.vl_model.specs.Winners.{exact}
 use Rattle.vl_model.specs.declared.entry.Entry.{Entry}
-use Rattle.vl_run.specs.Order.{place_of}
-use Rattle.vl_run.specs.laws.Exact.{exact-in_order}
-use Rattle.vl_run.specs.laws.Lookup.{exact-behind, is_at-tied}
-use Rattle.vl_run.specs.laws.OrderLaws.{IsBefore, IsRising, before-all, entry_total, rising-in_order, turned}
+use Rattle.vl_model.specs.EntryOrder.{place_of}
+use Rattle.vl_model.specs.laws.Exact.{exact-in_order}
+use Rattle.vl_model.specs.laws.Lookup.{exact-behind, is_at-tied}
+use Rattle.vl_model.specs.laws.OrderLaws.{IsBefore, IsRising, before-all, entry_total, rising-in_order, turned}
 
 -- the two entries are of one key and version
 abbrev pub is_same : Entry → Entry → Bool

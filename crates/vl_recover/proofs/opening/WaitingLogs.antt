@@ -2,9 +2,9 @@
 use Rattle.std.proofs.Common.{◌≡◌, ℕ, ◌+◌, max, Bool, true, false, List, [], ◌∷◌, ◌++◌, refl, sym, ap, ◌∙◌, subst, arith}
 use Rattle.std.specs.Prelude.{◌==◌, if◌then◌else◌, Result, Ok, Err}
 use Rattle.std.proofs.lemmas.List.{append-nil}
-use Rattle.vl_layout.specs.Logs.{new_segment}
-use Rattle.vl_layout.specs.Rulings.Flush.{covered_by}
-use Rattle.vl_layout.specs.declared.segment.Segment.{Segment}
+use Rattle.vl_engine_model.specs.Logs.{new_segment}
+use Rattle.vl_engine_model.specs.Rulings.Flush.{covered_by}
+use Rattle.vl_engine_model.specs.declared.segment.Segment.{Segment}
 use Rattle.vl_manifest.specs.declared.waiting.Waiting.{Waiting}
 use Rattle.vl_model.specs.Frames.{frame_length}
 use Rattle.vl_model.specs.declared.log_frame.LogFrame.{LogFrame}

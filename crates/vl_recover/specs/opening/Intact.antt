@@ -2,16 +2,16 @@
 use Rattle.std.specs.Prelude.{◌≡◌, ◌<◌, ℕ, zero, suc, if◌then◌else◌, true, bytes_eq, List, [], ◌++◌, take, Option, None, Some, Ok}
 use Rattle.std.specs.FinMap.{get}
 use Rattle.std.specs.List.{AllByRecursion, AllZip, flat_map}
-use Rattle.vl_block.specs.Bytes.{IsTable, table_bytes}
-use Rattle.vl_block.specs.Cutting.{joined}
+use Rattle.vl_table.specs.body.Bytes.{IsTable, table_bytes}
+use Rattle.vl_model.specs.Cutting.{joined}
 use Rattle.vl_disk.specs.Crash.{Image}
 use Rattle.vl_disk.specs.DiskState.{DiskState}
 use Rattle.vl_disk.specs.declared.name.Name.TheVariants.{Log, Table}
-use Rattle.vl_layout.specs.Logs.{memtable}
-use Rattle.vl_layout.specs.Shown.{IsOf}
-use Rattle.vl_layout.specs.Shows.{AreUpTo, Shows}
-use Rattle.vl_layout.specs.Start.{newest_first}
-use Rattle.vl_layout.specs.declared.segment.Segment.{Segment}
+use Rattle.vl_engine_model.specs.Logs.{memtable}
+use Rattle.vl_engine_model.specs.Shown.{IsOf}
+use Rattle.vl_engine_model.specs.Shows.{AreUpTo, Shows}
+use Rattle.vl_engine_model.specs.Start.{newest_first}
+use Rattle.vl_engine_model.specs.declared.segment.Segment.{Segment}
 use Rattle.vl_manifest.specs.Levels.{is_in}
 use Rattle.vl_model.specs.Formats.{log_format}
 use Rattle.vl_model.specs.History.{History, Past}

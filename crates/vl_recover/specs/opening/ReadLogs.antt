@@ -2,7 +2,7 @@
 use Rattle.std.specs.Prelude.{◌≡◌, ℕ, ◌+◌, Bool, true, false, ◌&&◌, ◌==◌, if◌then◌else◌, List, [], ◌++◌, map, reverse}
 use Rattle.std.specs.Prelude.{Option, None, Result, Ok, Err, is_some}
 use Rattle.vl_frame.specs.Runs.{ReadsAs}
-use Rattle.vl_layout.specs.Logs.{logged_body, logged_entries}
+use Rattle.vl_engine_model.specs.Logs.{logged_body, logged_entries}
 use Rattle.vl_model.specs.Entries.{in_order}
 use Rattle.vl_model.specs.declared.entry.Entry.{Entry}
 use Rattle.vl_model.specs.declared.log_frame.LogFrame.{LogFrame}

@@ -5,8 +5,8 @@ use Rattle.vl_model.specs.Formats.{log_format}
 use Rattle.vl_model.specs.Frames.{frame_length}
 use Rattle.vl_model.specs.declared.log_frame.LogFrame.{LogFrame}
 use Rattle.vl_model.specs.declared.log_frame.LogFrame.TheVariants.{Committed, Relocated}
-use Rattle.vl_layout.specs.Logs.{new_segment}
-use Rattle.vl_layout.specs.declared.segment.Segment.{Segment}
+use Rattle.vl_engine_model.specs.Logs.{new_segment}
+use Rattle.vl_engine_model.specs.declared.segment.Segment.{Segment}
 use Rattle.vl_seglog.specs.LogReading.{LogReading, end_of}
 use Rattle.vl_recover.specs.opening.Stages.{on_ok}
 

@@ -8,60 +8,60 @@ use Rattle.vl_disk.specs.Faults.{after_calls}
 use Rattle.vl_disk.specs.declared.name.Name.{Name as FileName}
 use Rattle.vl_disk.specs.declared.watched.Watched.{Ghosts}
 use Rattle.vl_engine.specs.Answers.{IsWritable}
-use Rattle.vl_core.specs.Carries.{Carries, SameFiles}
-use Rattle.vl_core.specs.Held.{Holds}
-use Rattle.vl_core.specs.Represents as engine
+use Rattle.vl_engine_laws.specs.Carries.{Carries, SameFiles}
+use Rattle.vl_engine_laws.specs.Held.{Holds}
+use Rattle.vl_engine_laws.specs.Represents as engine
 use Rattle.vl_engine.specs.Sees.{asked}
-use Rattle.vl_core.specs.Pointed.{layout_logs}
-use Rattle.vl_core.specs.Shown.{Shown}
-use Rattle.vl_core.specs.Spared.{at_rest}
-use Rattle.vl_core.specs.Writing.{StopsWriting, at_append, at_sync, written}
+use Rattle.vl_engine_laws.specs.Pointed.{layout_logs}
+use Rattle.vl_engine_laws.specs.Shown.{Shown}
+use Rattle.vl_engine_laws.specs.Spared.{at_rest}
+use Rattle.vl_engine_laws.specs.Writing.{StopsWriting, at_append, at_sync, written}
 use Rattle.vl_back.specs.declared.back.Back.{Back}
-use Rattle.vl_core.specs.declared.kept.Core.{Core}
+use Rattle.vl_engine_laws.specs.declared.kept.Core.{Core}
 use Rattle.vl_engine.specs.declared.txn.Txn.{Txn}
-use Rattle.vl_core.specs.laws.CommitLaws.{commit_base, commit_holds}
-use Rattle.vl_core.specs.laws.KeptLaws.{begun_kept, table_log, written_elsewhere}
-use Rattle.vl_core.specs.laws.SparedRulings.{committed_spares}
+use Rattle.vl_engine_laws.specs.laws.CommitLaws.{commit_base, commit_holds}
+use Rattle.vl_engine_laws.specs.laws.KeptLaws.{begun_kept, table_log, written_elsewhere}
+use Rattle.vl_engine_laws.specs.laws.SparedRulings.{committed_spares}
 use Rattle.vl_frame.specs.Runs.{HasFrame}
-use Rattle.vl_layout.specs.AtAnswer.{Beginning}
-use Rattle.vl_layout.specs.Decides.{Answered, Effects, NoMemory as OutOfMemory, Outcome, as_before}
-use Rattle.vl_layout.specs.Ruling.{Ruling}
-use Rattle.vl_layout.specs.Rulings.Commit as commit
-use Rattle.vl_layout.specs.Rulings.Commit.{CommitAnswer, Transaction as ATxn, commit_frame, commit_lost}
-use Rattle.vl_layout.specs.Rulings.Commit.{commit_ruling, commit_unless, committed}
-use Rattle.vl_layout.specs.Store.Commits.{history_in}
-use Rattle.vl_layout.specs.Store.Lines.{Done, Name}
-use Rattle.vl_layout.specs.Store.Reading.{commit_by, committed_by}
-use Rattle.vl_layout.specs.Store.Lines as store_lines
-use Rattle.vl_layout.specs.Store.Things as store
-use Rattle.vl_layout.specs.Store.Things.{ATransaction, Step, only, thing_of}
-use Rattle.vl_layout.specs.Tidy.{IsTidy}
-use Rattle.vl_layout.specs.declared.layout.Layout.{Layout}
-use Rattle.vl_layout.specs.laws.CommitsLaws.{conflict_in-is}
-use Rattle.vl_layout_laws.specs.laws.TidyRulings.{commit_tidy}
+use Rattle.vl_engine_model.specs.AtAnswer.{Beginning}
+use Rattle.vl_engine_model.specs.Decides.{Answered, Effects, NoMemory as OutOfMemory, Outcome, as_before}
+use Rattle.vl_engine_model.specs.Ruling.{Ruling}
+use Rattle.vl_engine_model.specs.Rulings.Commit as commit
+use Rattle.vl_engine_model.specs.Rulings.Commit.{CommitAnswer, Transaction as ATxn, commit_frame, commit_lost}
+use Rattle.vl_engine_model.specs.Rulings.Commit.{commit_ruling, commit_unless, committed}
+use Rattle.vl_engine_model.specs.Store.Commits.{history_in}
+use Rattle.vl_engine_model.specs.Store.Lines.{Done, Name}
+use Rattle.vl_engine_model.specs.Store.Reading.{commit_by, committed_by}
+use Rattle.vl_engine_model.specs.Store.Lines as store_lines
+use Rattle.vl_engine_model.specs.Store.Things as store
+use Rattle.vl_engine_model.specs.Store.Things.{ATransaction, Step, only, thing_of}
+use Rattle.vl_engine_model.specs.Tidy.{IsTidy}
+use Rattle.vl_engine_model.specs.declared.layout.Layout.{Layout}
+use Rattle.vl_engine_model.specs.laws.CommitsLaws.{conflict_in-is}
+use Rattle.vl_engine_model_laws.specs.laws.TidyRulings.{commit_tidy}
 use Rattle.vl_model.specs.Formats.{log_format}
 use Rattle.vl_model.specs.History.{History, last_number}
 use Rattle.vl_model.specs.Keys.{key_cmp}
 use Rattle.vl_model.specs.declared.change.Change.{Change}
 use Rattle.vl_model.specs.declared.counter.Counter.{Counter}
 use Rattle.vl_recover.specs.laws.crash.TornFrames as torn
-use Rattle.vl_sequential.specs.Durable.{CarriesOut, CrashesShow, HoldsCommits, HoldsState, LeadsTo, StopsWithin, Tells}
-use Rattle.vl_sequential.specs.Halts.{HaltsByDisk, HaltsByRead}
+use Rattle.vl_script_model.specs.Durable.{CarriesOut, CrashesShow, HoldsCommits, HoldsState, LeadsTo, StopsWithin, Tells}
+use Rattle.vl_script_model.specs.Halts.{HaltsByDisk, HaltsByRead}
 use Rattle.vl_replay.specs.Replaying.{StandsIn, state_by}
-use Rattle.vl_sequential.specs.Sequential.{State, history_of}
+use Rattle.vl_script_model.specs.Sequential.{State, history_of}
 use Rattle.vl_replay.specs.Standing.{IsTransaction}
-use Rattle.vl_sequential.specs.Stopped.{AreNumberedUpTo, ByFrame, append_failed, frame_behind, log_of, sync_failed}
-use Rattle.vl_sequential.specs.Stored.{IsStopped, IsStored}
-use Rattle.vl_sequential.specs.declared.fails.Halt.{Halt}
-use Rattle.vl_sequential.specs.declared.fails.Halt.TheVariants as why
+use Rattle.vl_script_model.specs.Stopped.{AreNumberedUpTo, ByFrame, append_failed, frame_behind, log_of, sync_failed}
+use Rattle.vl_script_model.specs.Stored.{IsStopped, IsStored}
+use Rattle.vl_script_model.specs.declared.fails.Halt.{Halt}
+use Rattle.vl_script_model.specs.declared.fails.Halt.TheVariants as why
 use Rattle.vl_replay.specs.declared.replayer.open.Open.{Open}
-use Rattle.vl_sequential.specs.laws.Growing.{Keeps, history_more}
+use Rattle.vl_script_model.specs.laws.Growing.{Keeps, history_more}
 use Rattle.vl_script.specs.declared.answer.Answer.{Answer}
 use Rattle.vl_seglog.specs.Frames.{frame_at, frames_grammar}
-use Rattle.vl_sequential.specs.laws.HeldDisk.{stored_as, stored_by}
+use Rattle.vl_script_model.specs.laws.HeldDisk.{stored_as, stored_by}
 use Rattle.vl_replay.proofs.Names.CommitMaking.{answers_ruling, ruling_of}
 use Rattle.vl_replay.proofs.Names.Serving.{represents}
-use Rattle.vl_sequential.specs.laws.Numbered.{changed_numbered}
+use Rattle.vl_script_model.specs.laws.Numbered.{changed_numbered}
 
 -- ---- a step by the answer on it
 

@@ -9,38 +9,38 @@ use Rattle.vl_disk.specs.Performs.{FailedAt, calls_on}
 use Rattle.vl_disk.specs.declared.name.Name.{Name as FileName}
 use Rattle.vl_disk.specs.declared.name.Name.TheVariants.{Manifest}
 use Rattle.vl_disk.specs.declared.watched.Watched.{Ghosts}
-use Rattle.vl_core.specs.Carries.{Carries, SameFiles}
+use Rattle.vl_engine_laws.specs.Carries.{Carries, SameFiles}
 use Rattle.vl_engine.specs.Keeping.{KeepFailed, keep_outcome}
-use Rattle.vl_core.specs.Represents as engine
-use Rattle.vl_core.specs.Shown.{Shown}
-use Rattle.vl_core.specs.MayStep.{LeavesNumbers}
+use Rattle.vl_engine_laws.specs.Represents as engine
+use Rattle.vl_engine_laws.specs.Shown.{Shown}
+use Rattle.vl_engine_laws.specs.MayStep.{LeavesNumbers}
 use Rattle.vl_engine.specs.declared.fails.KeepFail.{KeepFail}
 use Rattle.vl_engine.specs.declared.fails.KeepFail.TheVariants as unkept
-use Rattle.vl_core.specs.declared.kept.Core.{Core}
-use Rattle.vl_layout.specs.Decides.{Answered, Effects, as_before}
-use Rattle.vl_layout.specs.Ruling.{Ruling}
-use Rattle.vl_layout.specs.Rulings.Keep as rulings
-use Rattle.vl_layout.specs.Rulings.Keep.{KeepAnswer}
-use Rattle.vl_layout.specs.Store.Dispatch.{keep_by}
-use Rattle.vl_layout.specs.declared.layout.Layout.{Layout}
+use Rattle.vl_engine_laws.specs.declared.kept.Core.{Core}
+use Rattle.vl_engine_model.specs.Decides.{Answered, Effects, as_before}
+use Rattle.vl_engine_model.specs.Ruling.{Ruling}
+use Rattle.vl_engine_model.specs.Rulings.Keep as rulings
+use Rattle.vl_engine_model.specs.Rulings.Keep.{KeepAnswer}
+use Rattle.vl_engine_model.specs.Store.Dispatch.{keep_by}
+use Rattle.vl_engine_model.specs.declared.layout.Layout.{Layout}
 use Rattle.vl_mem.specs.laws.CrashChance.{IsTornByPieces}
 use Rattle.vl_model.specs.History.{History, last_number}
 use Rattle.vl_recover.specs.crash.Alike.{IsLeft}
-use Rattle.vl_sequential.specs.Between.{ShowsBetween}
-use Rattle.vl_sequential.specs.Durable.{CarriesOut, CrashesShow, HoldsCommits, HoldsState, LeadsTo, StopsWithin}
-use Rattle.vl_sequential.specs.Halts.{HaltsByRead}
+use Rattle.vl_script_model.specs.Between.{ShowsBetween}
+use Rattle.vl_script_model.specs.Durable.{CarriesOut, CrashesShow, HoldsCommits, HoldsState, LeadsTo, StopsWithin}
+use Rattle.vl_script_model.specs.Halts.{HaltsByRead}
 use Rattle.vl_replay.specs.Replaying.{StandsIn, state_by}
-use Rattle.vl_sequential.specs.Sequential.{State, history_of}
+use Rattle.vl_script_model.specs.Sequential.{State, history_of}
 use Rattle.vl_replay.specs.Standing.{told_keep}
-use Rattle.vl_sequential.specs.Stopped.{AreNumberedUpTo, StopsStep, step_failed}
-use Rattle.vl_sequential.specs.Stored.{IsStopped, IsStored}
-use Rattle.vl_sequential.specs.declared.fails.Halt.{Halt}
-use Rattle.vl_sequential.specs.declared.fails.Halt.TheVariants as why
+use Rattle.vl_script_model.specs.Stopped.{AreNumberedUpTo, StopsStep, step_failed}
+use Rattle.vl_script_model.specs.Stored.{IsStopped, IsStored}
+use Rattle.vl_script_model.specs.declared.fails.Halt.{Halt}
+use Rattle.vl_script_model.specs.declared.fails.Halt.TheVariants as why
 use Rattle.vl_replay.specs.declared.replayer.open.Open.{Open}
 use Rattle.vl_script.specs.declared.answer.Answer.{Answer}
 use Rattle.vl_replay.proofs.Disk.Committed.{numbered_still}
-use Rattle.vl_sequential.specs.laws.DiskSteps.{IsWatched}
-use Rattle.vl_sequential.specs.laws.HeldDisk.{stored_by}
+use Rattle.vl_script_model.specs.laws.DiskSteps.{IsWatched}
+use Rattle.vl_script_model.specs.laws.HeldDisk.{stored_by}
 use Rattle.vl_replay.proofs.Disk.Stepped.{at_each, at_most}
 use Rattle.vl_replay.proofs.Names.KeepMaking.{KeepsOf, keep_failed}
 use Rattle.vl_replay.proofs.Names.Serving.{represents}

@@ -3,18 +3,18 @@ use Rattle.std.proofs.Common.{◌≡◌, ◌≤◌, ℕ, ◌+◌, inr, List, len
 use Rattle.std.specs.Prelude.{Option, Some, Ok, Err, Result, OnOk, IsTrue}
 use Rattle.std.specs.List.{AllByRecursion}
 use Rattle.std.specs.Option.{option_map}
-use Rattle.vl_core.specs.Carries.{Carries, SameFiles}
-use Rattle.vl_core.specs.Held.{Holds}
-use Rattle.vl_core.specs.Pointed.{layout_logs}
-use Rattle.vl_core.specs.Represents as engine
-use Rattle.vl_core.specs.Shown.{Shown}
-use Rattle.vl_core.specs.Spared.{at_rest}
-use Rattle.vl_core.specs.Writing.{StopsWriting, at_append, at_sync, written}
-use Rattle.vl_core.specs.declared.kept.Core.{Core}
-use Rattle.vl_core.specs.laws.KeptLaws.{begun_kept, table_log, written_elsewhere}
-use Rattle.vl_core.specs.laws.RelocateLaws.{relocated_base, relocated_holds}
-use Rattle.vl_core.specs.laws.RelocateRulings.{history_is}
-use Rattle.vl_core.specs.laws.RelocateStanding.{relocated_spares}
+use Rattle.vl_engine_laws.specs.Carries.{Carries, SameFiles}
+use Rattle.vl_engine_laws.specs.Held.{Holds}
+use Rattle.vl_engine_laws.specs.Pointed.{layout_logs}
+use Rattle.vl_engine_laws.specs.Represents as engine
+use Rattle.vl_engine_laws.specs.Shown.{Shown}
+use Rattle.vl_engine_laws.specs.Spared.{at_rest}
+use Rattle.vl_engine_laws.specs.Writing.{StopsWriting, at_append, at_sync, written}
+use Rattle.vl_engine_laws.specs.declared.kept.Core.{Core}
+use Rattle.vl_engine_laws.specs.laws.KeptLaws.{begun_kept, table_log, written_elsewhere}
+use Rattle.vl_engine_laws.specs.laws.RelocateLaws.{relocated_base, relocated_holds}
+use Rattle.vl_engine_laws.specs.laws.RelocateRulings.{history_is}
+use Rattle.vl_engine_laws.specs.laws.RelocateStanding.{relocated_spares}
 use Rattle.vl_disk.specs.Calls.{ChangesNothing}
 use Rattle.vl_disk.specs.DiskState.{appended}
 use Rattle.vl_disk.specs.Faults.{after_calls}
@@ -22,19 +22,19 @@ use Rattle.vl_disk.specs.declared.name.Name.{Name as FileName}
 use Rattle.vl_disk.specs.declared.watched.Watched.{Ghosts}
 use Rattle.vl_engine.specs.Relocating.{IsMovable}
 use Rattle.vl_frame.specs.Runs.{HasFrame}
-use Rattle.vl_layout.specs.Decides.{Answered, Effects, Outcome, as_before}
-use Rattle.vl_layout.specs.Relocation.{Candidate, Pass, moved_of}
-use Rattle.vl_layout.specs.Ruling.{Ruling}
-use Rattle.vl_layout.specs.Rulings.Relocate as move
-use Rattle.vl_layout.specs.Rulings.Relocate.{MoveAnswer, relocate_ruling, relocated}
-use Rattle.vl_layout.specs.Shown.{IsThere}
-use Rattle.vl_layout.specs.Sources.{sources}
-use Rattle.vl_layout.specs.Store.Commits.{history_in}
-use Rattle.vl_layout.specs.Store.Lines.{Name}
-use Rattle.vl_layout.specs.Store.Things.{APass, Step, thing_of}
-use Rattle.vl_layout.specs.Tidy.{IsRuledTidy}
-use Rattle.vl_layout.specs.declared.layout.Layout.{Layout}
-use Rattle.vl_layout_laws.specs.laws.TidyRulings.{relocate_tidy}
+use Rattle.vl_engine_model.specs.Decides.{Answered, Effects, Outcome, as_before}
+use Rattle.vl_engine_model.specs.Relocation.{Candidate, Pass, moved_of}
+use Rattle.vl_engine_model.specs.Ruling.{Ruling}
+use Rattle.vl_engine_model.specs.Rulings.Relocate as move
+use Rattle.vl_engine_model.specs.Rulings.Relocate.{MoveAnswer, relocate_ruling, relocated}
+use Rattle.vl_engine_model.specs.Shown.{IsThere}
+use Rattle.vl_engine_model.specs.Sources.{sources}
+use Rattle.vl_engine_model.specs.Store.Commits.{history_in}
+use Rattle.vl_engine_model.specs.Store.Lines.{Name}
+use Rattle.vl_engine_model.specs.Store.Things.{APass, Step, thing_of}
+use Rattle.vl_engine_model.specs.Tidy.{IsRuledTidy}
+use Rattle.vl_engine_model.specs.declared.layout.Layout.{Layout}
+use Rattle.vl_engine_model_laws.specs.laws.TidyRulings.{relocate_tidy}
 use Rattle.vl_model.specs.Formats.{log_format}
 use Rattle.vl_model.specs.History.{History, last_number}
 use Rattle.vl_model.specs.declared.log_frame.LogFrame.{LogFrame}
@@ -42,20 +42,20 @@ use Rattle.vl_model.specs.declared.log_frame.LogFrame.TheVariants.{Relocated}
 use Rattle.vl_model.specs.declared.log_frame.Moved.{Moved}
 use Rattle.vl_recover.specs.laws.crash.TornFrames as torn
 use Rattle.vl_seglog.specs.Frames.{frame_at, frames_grammar}
-use Rattle.vl_sequential.specs.Durable.{CarriesOut, CrashesShow, HoldsState, LeadsTo, StopsWithin}
-use Rattle.vl_sequential.specs.Halts.{HaltsByDisk, HaltsByRead}
+use Rattle.vl_script_model.specs.Durable.{CarriesOut, CrashesShow, HoldsState, LeadsTo, StopsWithin}
+use Rattle.vl_script_model.specs.Halts.{HaltsByDisk, HaltsByRead}
 use Rattle.vl_replay.specs.Replaying.{StandsIn, state_by}
-use Rattle.vl_sequential.specs.Sequential.{State, history_of}
-use Rattle.vl_sequential.specs.Stopped.{ByFrame, append_failed, frame_behind, log_of, sync_failed}
-use Rattle.vl_sequential.specs.Stored.{IsStopped, IsStored}
-use Rattle.vl_sequential.specs.declared.fails.Halt.{Halt}
-use Rattle.vl_sequential.specs.declared.fails.Halt.TheVariants as why
+use Rattle.vl_script_model.specs.Sequential.{State, history_of}
+use Rattle.vl_script_model.specs.Stopped.{ByFrame, append_failed, frame_behind, log_of, sync_failed}
+use Rattle.vl_script_model.specs.Stored.{IsStopped, IsStored}
+use Rattle.vl_script_model.specs.declared.fails.Halt.{Halt}
+use Rattle.vl_script_model.specs.declared.fails.Halt.TheVariants as why
 use Rattle.vl_replay.specs.declared.replayer.open.Open.{Open}
 use Rattle.vl_script.specs.declared.answer.Answer.{Answer}
 use Rattle.vl_replay.proofs.Disk.Committed.{numbered_still}
-use Rattle.vl_sequential.specs.laws.HeldDisk.{stored_as, stored_by}
+use Rattle.vl_script_model.specs.laws.HeldDisk.{stored_as, stored_by}
 use Rattle.vl_replay.proofs.Names.Serving.{represents}
-use Rattle.vl_sequential.specs.laws.Numbered.{changed_numbered}
+use Rattle.vl_script_model.specs.laws.Numbered.{changed_numbered}
 use Rattle.vl_replay.proofs.Passes.Moving as moves
 use Rattle.vl_replay.proofs.Passes.Moving.{IsRefusal, KeepsLogs, keeps_logs, refused_is, refused_leaves, step_by}
 

@@ -7,7 +7,7 @@ use Rattle.std.specs.FinMap.{get, remove}
 use Rattle.std.specs.List.{AllByRecursion, list_any}
 use Rattle.std.specs.Option.{option_map}
 use Rattle.vl_compact.specs.declared.files.Lent.{Lent}
-use Rattle.vl_core.specs.Represents.{file_of}
+use Rattle.vl_engine_laws.specs.Represents.{file_of}
 use Rattle.vl_disk.specs.Chance.{GrowsByFrames}
 use Rattle.vl_disk.specs.DiskState.{DiskState, File, without}
 use Rattle.vl_disk.specs.Calls.{Removes as RemovesFile}
@@ -21,14 +21,14 @@ use Rattle.vl_disk.specs.declared.watched.Watched.{Ghosts}
 use Rattle.vl_disk.specs.declared.writer.Writer.{Ghosts as Writers}
 use Rattle.vl_disk.specs.laws.NameMap.{get_inserted_other, get_removed, get_removed_other, same_or_other}
 use Rattle.vl_engine.specs.Sweeping.{RemovesAll, RemovesOne, StopsRemoving, TakesIfLent}
-use Rattle.vl_layout.specs.Rulings.Sweep.{is_same}
-use Rattle.vl_layout.specs.Stock.{is_in}
-use Rattle.vl_layout.specs.declared.file_name.FileName.{FileName}
-use Rattle.vl_layout.specs.declared.file_name.FileName.TheVariants as files
+use Rattle.vl_engine_model.specs.Rulings.Sweep.{is_same}
+use Rattle.vl_engine_model.specs.Stock.{is_in}
+use Rattle.vl_engine_model.specs.declared.file_name.FileName.{FileName}
+use Rattle.vl_engine_model.specs.declared.file_name.FileName.TheVariants as files
 use Rattle.vl_mem.specs.laws.CrashChance.{IsTornByPieces}
 use Rattle.vl_pins.specs.declared.retired_file.RetiredFile.{RetiredFile}
 use Rattle.vl_recover.specs.crash.Held.{AllSettled}
-use Rattle.vl_sequential.specs.laws.TornSteps.{settled_torn}
+use Rattle.vl_script_model.specs.laws.TornSteps.{settled_torn}
 
 -- ---- disks
 

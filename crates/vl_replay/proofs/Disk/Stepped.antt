@@ -14,38 +14,38 @@ use Rattle.vl_disk.specs.laws.NameMap.{same_or_other}
 use Rattle.vl_disk.specs.declared.name.Name.{Name as FileName}
 use Rattle.vl_disk.specs.declared.name.Name.TheVariants.{Log, Manifest, Table}
 use Rattle.vl_disk.specs.declared.watched.Watched.{Ghosts}
-use Rattle.vl_core.specs.Carries.{Carries}
-use Rattle.vl_core.specs.Represents as engine
-use Rattle.vl_core.specs.RotateFacts.{at_hold, at_new_log}
-use Rattle.vl_core.specs.RotateFacts.{StopsRotating}
-use Rattle.vl_core.specs.Shown.{Shown}
+use Rattle.vl_engine_laws.specs.Carries.{Carries}
+use Rattle.vl_engine_laws.specs.Represents as engine
+use Rattle.vl_engine_laws.specs.RotateFacts.{at_hold, at_new_log}
+use Rattle.vl_engine_laws.specs.RotateFacts.{StopsRotating}
+use Rattle.vl_engine_laws.specs.Shown.{Shown}
 use Rattle.vl_engine.specs.Stepping.{StepFailed, StepLeavesDisk, step_outcome}
-use Rattle.vl_core.specs.MayStep.{LeavesNumbers}
+use Rattle.vl_engine_laws.specs.MayStep.{LeavesNumbers}
 use Rattle.vl_engine.specs.declared.fails.StepFail.{StepFail}
 use Rattle.vl_engine.specs.declared.fails.StepFail.TheVariants as undone
-use Rattle.vl_core.specs.declared.kept.Core.{Core}
-use Rattle.vl_layout.specs.Decides.{Answered, Effects, as_before}
-use Rattle.vl_layout.specs.Ruling as rulings
-use Rattle.vl_layout.specs.Ruling.{Ruling, StepAnswer}
-use Rattle.vl_layout.specs.Store.Dispatch.{step_by, step_told}
-use Rattle.vl_layout.specs.declared.layout.Layout.{Layout}
+use Rattle.vl_engine_laws.specs.declared.kept.Core.{Core}
+use Rattle.vl_engine_model.specs.Decides.{Answered, Effects, as_before}
+use Rattle.vl_engine_model.specs.Ruling as rulings
+use Rattle.vl_engine_model.specs.Ruling.{Ruling, StepAnswer}
+use Rattle.vl_engine_model.specs.Store.Dispatch.{step_by, step_told}
+use Rattle.vl_engine_model.specs.declared.layout.Layout.{Layout}
 use Rattle.vl_mem.specs.laws.CrashChance.{IsTornByPieces}
 use Rattle.vl_model.specs.History.{History, last_number}
 use Rattle.vl_recover.specs.crash.Alike.{IsLeft}
-use Rattle.vl_sequential.specs.Between.{ShowsBetween}
-use Rattle.vl_sequential.specs.Durable.{CarriesOut, CrashesShow, HoldsCommits, HoldsState, LeadsTo, StopsWithin}
-use Rattle.vl_sequential.specs.Halts.{HaltsByRead}
+use Rattle.vl_script_model.specs.Between.{ShowsBetween}
+use Rattle.vl_script_model.specs.Durable.{CarriesOut, CrashesShow, HoldsCommits, HoldsState, LeadsTo, StopsWithin}
+use Rattle.vl_script_model.specs.Halts.{HaltsByRead}
 use Rattle.vl_replay.specs.Replaying.{StandsIn, state_by_step}
-use Rattle.vl_sequential.specs.Sequential.{State, files_behind, history_of}
+use Rattle.vl_script_model.specs.Sequential.{State, files_behind, history_of}
 use Rattle.vl_replay.specs.Standing.{told_step}
-use Rattle.vl_sequential.specs.Stopped.{AreNumberedUpTo, StopsStep, step_failed}
-use Rattle.vl_sequential.specs.Stored.{IsStopped, IsStored}
-use Rattle.vl_sequential.specs.declared.fails.Halt.{Halt}
-use Rattle.vl_sequential.specs.declared.fails.Halt.TheVariants as why
+use Rattle.vl_script_model.specs.Stopped.{AreNumberedUpTo, StopsStep, step_failed}
+use Rattle.vl_script_model.specs.Stored.{IsStopped, IsStored}
+use Rattle.vl_script_model.specs.declared.fails.Halt.{Halt}
+use Rattle.vl_script_model.specs.declared.fails.Halt.TheVariants as why
 use Rattle.vl_replay.specs.declared.replayer.open.Open.{Open}
 use Rattle.vl_script.specs.declared.answer.Answer.{Answer}
-use Rattle.vl_sequential.specs.laws.DiskSteps.{IsWatched}
-use Rattle.vl_sequential.specs.laws.HeldDisk.{stored_by}
+use Rattle.vl_script_model.specs.laws.DiskSteps.{IsWatched}
+use Rattle.vl_script_model.specs.laws.HeldDisk.{stored_by}
 use Rattle.vl_replay.proofs.Names.Serving.{represents}
 use Rattle.vl_replay.proofs.Names.StepMaking as making
 use Rattle.vl_replay.proofs.Names.StepMaking.{LeavesOf}

@@ -6,12 +6,12 @@ use Rattle.std.proofs.lemmas.List.Elements.{recursion_from_All}
 use Rattle.std.specs.Prelude.{◌≢◌, Option, None, Some, Ok, Err, Result, OnOk}
 use Rattle.std.specs.List.{AllByRecursion, filter}
 use Rattle.vl_compact.specs.declared.files.Lent.{Lent}
-use Rattle.vl_core.specs.MayStep.{LeavesNumbers}
-use Rattle.vl_core.specs.Represents as engine
-use Rattle.vl_core.specs.Represents.{file_of}
-use Rattle.vl_core.specs.Shown.{Shown}
-use Rattle.vl_core.specs.Carries.{Carries}
-use Rattle.vl_core.specs.declared.kept.Core.{Core}
+use Rattle.vl_engine_laws.specs.MayStep.{LeavesNumbers}
+use Rattle.vl_engine_laws.specs.Represents as engine
+use Rattle.vl_engine_laws.specs.Represents.{file_of}
+use Rattle.vl_engine_laws.specs.Shown.{Shown}
+use Rattle.vl_engine_laws.specs.Carries.{Carries}
+use Rattle.vl_engine_laws.specs.declared.kept.Core.{Core}
 use Rattle.vl_disk.specs.Crash.{Image}
 use Rattle.vl_disk.specs.DiskState.{DiskState}
 use Rattle.vl_disk.specs.Faults.{after_calls}
@@ -29,34 +29,34 @@ use Rattle.vl_engine.specs.declared.fails.SweepFail.{SweepFail}
 use Rattle.vl_engine.specs.declared.fails.SweepFail.TheVariants as unswept
 use Rattle.vl_engine.specs.declared.open.OpenMerge.{OpenMerge}
 use Rattle.vl_engine.specs.declared.open.Removing.{Removing}
-use Rattle.vl_layout.specs.Decides.{Answered}
-use Rattle.vl_layout.specs.Jobs.{lent_numbers, loose}
-use Rattle.vl_layout.specs.Ruling.{Ruling}
-use Rattle.vl_layout.specs.Rulings.Sweep as rulings
-use Rattle.vl_layout.specs.Rulings.Sweep.{SweepAnswer, sweep_ruling, sweep_unless, swept}
-use Rattle.vl_layout.specs.Stock.{IsDrawn, is_in}
-use Rattle.vl_layout.specs.Store.Dispatch.{sweep_by}
-use Rattle.vl_layout.specs.declared.file_name.Retired.{Retired}
-use Rattle.vl_layout.specs.declared.layout.Layout.{Layout}
+use Rattle.vl_engine_model.specs.Decides.{Answered}
+use Rattle.vl_engine_model.specs.Jobs.{lent_numbers, loose}
+use Rattle.vl_engine_model.specs.Ruling.{Ruling}
+use Rattle.vl_engine_model.specs.Rulings.Sweep as rulings
+use Rattle.vl_engine_model.specs.Rulings.Sweep.{SweepAnswer, sweep_ruling, sweep_unless, swept}
+use Rattle.vl_engine_model.specs.Stock.{IsDrawn, is_in}
+use Rattle.vl_engine_model.specs.Store.Dispatch.{sweep_by}
+use Rattle.vl_engine_model.specs.declared.file_name.Retired.{Retired}
+use Rattle.vl_engine_model.specs.declared.layout.Layout.{Layout}
 use Rattle.vl_mem.specs.laws.CrashChance.{IsTornByPieces}
 use Rattle.vl_model.specs.History.{History, last_number}
 use Rattle.vl_pins.specs.Files.{is_up_to}
 use Rattle.vl_pins.specs.declared.retired_file.RetiredFile.{RetiredFile}
 use Rattle.vl_recover.specs.crash.Alike.{IsLeft}
-use Rattle.vl_sequential.specs.Between.{ShowsBetween}
-use Rattle.vl_sequential.specs.Durable.{CarriesOut, CrashesShow, HoldsCommits, HoldsState, LeadsTo, StopsWithin}
-use Rattle.vl_sequential.specs.Halts.{HaltsByRead}
+use Rattle.vl_script_model.specs.Between.{ShowsBetween}
+use Rattle.vl_script_model.specs.Durable.{CarriesOut, CrashesShow, HoldsCommits, HoldsState, LeadsTo, StopsWithin}
+use Rattle.vl_script_model.specs.Halts.{HaltsByRead}
 use Rattle.vl_replay.specs.Replaying.{StandsIn, state_by}
 use Rattle.vl_replay.specs.Standing.{told_sweep}
-use Rattle.vl_sequential.specs.Sequential.{State, history_of}
-use Rattle.vl_sequential.specs.Stopped.{AreNumberedUpTo, StopsStep, step_failed}
-use Rattle.vl_sequential.specs.Stored.{IsStopped, IsStored}
-use Rattle.vl_sequential.specs.declared.fails.Halt.{Halt}
-use Rattle.vl_sequential.specs.declared.fails.Halt.TheVariants as why
+use Rattle.vl_script_model.specs.Sequential.{State, history_of}
+use Rattle.vl_script_model.specs.Stopped.{AreNumberedUpTo, StopsStep, step_failed}
+use Rattle.vl_script_model.specs.Stored.{IsStopped, IsStored}
+use Rattle.vl_script_model.specs.declared.fails.Halt.{Halt}
+use Rattle.vl_script_model.specs.declared.fails.Halt.TheVariants as why
 use Rattle.vl_replay.specs.declared.replayer.open.Open.{Open}
 use Rattle.vl_script.specs.declared.answer.Answer.{Answer}
-use Rattle.vl_sequential.specs.laws.DiskSteps.{IsWatched}
-use Rattle.vl_sequential.specs.laws.HeldDisk.{stored_by}
+use Rattle.vl_script_model.specs.laws.DiskSteps.{IsWatched}
+use Rattle.vl_script_model.specs.laws.HeldDisk.{stored_by}
 use Rattle.vl_replay.proofs.Disk.Removals.{IsReady, stops_made, stops_named, stops_torn}
 use Rattle.vl_replay.proofs.Names.Serving.{represents}
 use Rattle.vl_replay.proofs.Names.SweepMaking.{SweepsOf, sweep_failed}

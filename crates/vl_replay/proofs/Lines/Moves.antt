@@ -2,25 +2,25 @@
 use Rattle.std.proofs.Common.{◌≡◌, true, ℕ, ◌+◌, List, refl, ap, sym, ◌∙◌, subst}
 use Rattle.std.specs.Prelude.{Option, None, Some, is_some, Result, Ok, Err, OnOk, All, Vec}
 use Rattle.std.specs.Global.{Global}
-use Rattle.vl_core.specs.Carries.{StaysUntold}
+use Rattle.vl_engine_laws.specs.Carries.{StaysUntold}
 use Rattle.vl_disk.specs.declared.watched.Watched.{Ghosts}
 use Rattle.vl_disk.specs.declared.writer.Writer.{Ghosts as Writers}
 use Rattle.vl_engine.specs.Installing.{numbers_in}
 use Rattle.vl_engine.specs.Lent.{Opens}
 use Rattle.vl_engine.specs.declared.open.OpenMerge.{OpenMerge}
-use Rattle.vl_layout.specs.Relocation.{Candidate, Pass}
-use Rattle.vl_layout.specs.Rulings.Relocate as move
-use Rattle.vl_layout.specs.Rulings.Relocate.{MoveAnswer, relocate_ruling, with_moves}
-use Rattle.vl_layout.specs.Store.Commits.{history_in}
-use Rattle.vl_layout.specs.Store.Dispatch.{move_by, moved_by}
-use Rattle.vl_layout.specs.Store.Lines.{Answer, Name}
-use Rattle.vl_layout.specs.Store.Things as things
-use Rattle.vl_layout.specs.Store.Things.{AJob, APass, ATransaction, AView, Step, Thing, only, thing_of}
-use Rattle.vl_layout.specs.declared.job.OpenJob.{OpenJob}
+use Rattle.vl_engine_model.specs.Relocation.{Candidate, Pass}
+use Rattle.vl_engine_model.specs.Rulings.Relocate as move
+use Rattle.vl_engine_model.specs.Rulings.Relocate.{MoveAnswer, relocate_ruling, with_moves}
+use Rattle.vl_engine_model.specs.Store.Commits.{history_in}
+use Rattle.vl_engine_model.specs.Store.Dispatch.{move_by, moved_by}
+use Rattle.vl_engine_model.specs.Store.Lines.{Answer, Name}
+use Rattle.vl_engine_model.specs.Store.Things as things
+use Rattle.vl_engine_model.specs.Store.Things.{AJob, APass, ATransaction, AView, Step, Thing, only, thing_of}
+use Rattle.vl_engine_model.specs.declared.job.OpenJob.{OpenJob}
 use Rattle.vl_model.specs.Numbers.{has}
 use Rattle.vl_model.specs.declared.log_frame.Moved.{Moved}
 use Rattle.vl_version.specs.declared.base.Base.{Base}
-use Rattle.vl_sequential.specs.declared.fails.Halt.{Halt}
+use Rattle.vl_script_model.specs.declared.fails.Halt.{Halt}
 use Rattle.vl_replay.specs.Handed.{CanHandIn, KeepsLent}
 use Rattle.vl_replay.specs.Replaying.{Merges, Waits}
 use Rattle.vl_replay.specs.declared.replayer.planned.Planned.{Planned}

@@ -4,7 +4,7 @@ use Rattle.std.specs.Prelude.{Option}
 use Rattle.vl_disk.specs.declared.watched.Watched.{Ghosts}
 use Rattle.vl_disk.specs.declared.writer.Writer.{Ghosts as Writers}
 use Rattle.vl_version.specs.declared.base.Base.{Base}
-use Rattle.vl_sequential.specs.Sequential.{State}
+use Rattle.vl_script_model.specs.Sequential.{State}
 use Rattle.vl_replay.specs.Replaying.{StandsMerging, StandsPassing, StandsRemoving, StandsWith}
 use Rattle.vl_replay.specs.declared.replayer.Served.{Served}
 use Rattle.vl_replay.specs.declared.replayer.passing.Passing.{Passing}

@@ -1,36 +1,36 @@
 -- The open pass behind lines of merges, and merges behind one of passes.
 use Rattle.std.proofs.Common.{◌≡◌, ℕ, ◌+◌, ◌++◌, Bool, true, false, cond, List, [], ◌∷◌, refl, ap, sym, ◌∙◌}
 use Rattle.std.specs.Prelude.{Option, None, Some, Result, OnOk}
-use Rattle.vl_core.specs.Lasts.{Lasts}
-use Rattle.vl_core.specs.Pointed.{layout_logs}
-use Rattle.vl_core.specs.declared.kept.Core.{Core}
-use Rattle.vl_core.specs.laws.Lasting.{install_lasts, lasts_same}
+use Rattle.vl_engine_laws.specs.Lasts.{Lasts}
+use Rattle.vl_engine_laws.specs.Pointed.{layout_logs}
+use Rattle.vl_engine_laws.specs.declared.kept.Core.{Core}
+use Rattle.vl_engine_laws.specs.laws.Lasting.{install_lasts, lasts_same}
 use Rattle.vl_engine.specs.Collecting.{Collects}
 use Rattle.vl_engine.specs.declared.open.Collecting.{Collecting}
-use Rattle.vl_layout.specs.Jobs.{Made}
-use Rattle.vl_layout.specs.Levels.{due_from, first_into}
-use Rattle.vl_layout.specs.Merging.{outputs}
-use Rattle.vl_layout.specs.Relocation.{Candidate, Pass, next_batch}
-use Rattle.vl_layout.specs.Ruling.{Ruling, has_no_number, has_no_version}
-use Rattle.vl_layout.specs.Rulings.Drain.{drain_of, drain_unless}
-use Rattle.vl_layout.specs.Rulings.Fresh as fresh
-use Rattle.vl_layout.specs.Rulings.Fresh.{FreshAnswer, fresh_ruling, fresh_unless}
-use Rattle.vl_layout.specs.Rulings.Install.{install_checked, install_unless, moved_since, race}
-use Rattle.vl_layout.specs.Rulings.Plan.{plan_of, plan_unless}
-use Rattle.vl_layout.specs.Sources.{tables}
-use Rattle.vl_layout.specs.Store.Commits.{history_in}
-use Rattle.vl_layout.specs.Store.Dispatch.{batch_by, fill, filled, found_by, install_by, made_of, plan_as, planned_by}
-use Rattle.vl_layout.specs.Store.Lines.{Answer, Name}
-use Rattle.vl_layout.specs.Store.Things as things
-use Rattle.vl_layout.specs.Store.Things.{AJob, APass, ATransaction, AView, Step, Thing, only, thing_of}
-use Rattle.vl_layout.specs.Tidy.{IsTidy}
-use Rattle.vl_layout.specs.declared.file_name.FileName.{FileName}
-use Rattle.vl_layout.specs.declared.job.Job.{Job}
-use Rattle.vl_layout.specs.declared.job.OpenJob.{OpenJob}
-use Rattle.vl_layout.specs.declared.job.OpenPass.{OpenPass}
-use Rattle.vl_layout.specs.declared.layout.Layout.{Layout}
-use Rattle.vl_layout.specs.declared.segment.Segment.{Segment}
-use Rattle.vl_layout.specs.declared.table.Table.{Table}
+use Rattle.vl_engine_model.specs.Jobs.{Made}
+use Rattle.vl_engine_model.specs.Levels.{due_from, first_into}
+use Rattle.vl_engine_model.specs.Merging.{outputs}
+use Rattle.vl_engine_model.specs.Relocation.{Candidate, Pass, next_batch}
+use Rattle.vl_engine_model.specs.Ruling.{Ruling, has_no_number, has_no_version}
+use Rattle.vl_engine_model.specs.Rulings.Drain.{drain_of, drain_unless}
+use Rattle.vl_engine_model.specs.Rulings.Fresh as fresh
+use Rattle.vl_engine_model.specs.Rulings.Fresh.{FreshAnswer, fresh_ruling, fresh_unless}
+use Rattle.vl_engine_model.specs.Rulings.Install.{install_checked, install_unless, moved_since, race}
+use Rattle.vl_engine_model.specs.Rulings.Plan.{plan_of, plan_unless}
+use Rattle.vl_engine_model.specs.Sources.{tables}
+use Rattle.vl_engine_model.specs.Store.Commits.{history_in}
+use Rattle.vl_engine_model.specs.Store.Dispatch.{batch_by, fill, filled, found_by, install_by, made_of, plan_as, planned_by}
+use Rattle.vl_engine_model.specs.Store.Lines.{Answer, Name}
+use Rattle.vl_engine_model.specs.Store.Things as things
+use Rattle.vl_engine_model.specs.Store.Things.{AJob, APass, ATransaction, AView, Step, Thing, only, thing_of}
+use Rattle.vl_engine_model.specs.Tidy.{IsTidy}
+use Rattle.vl_engine_model.specs.declared.file_name.FileName.{FileName}
+use Rattle.vl_engine_model.specs.declared.job.Job.{Job}
+use Rattle.vl_engine_model.specs.declared.job.OpenJob.{OpenJob}
+use Rattle.vl_engine_model.specs.declared.job.OpenPass.{OpenPass}
+use Rattle.vl_engine_model.specs.declared.layout.Layout.{Layout}
+use Rattle.vl_engine_model.specs.declared.segment.Segment.{Segment}
+use Rattle.vl_engine_model.specs.declared.table.Table.{Table}
 use Rattle.vl_model.specs.Conflicts.{Named}
 use Rattle.vl_model.specs.History.{History}
 use Rattle.vl_model.specs.declared.entry.Entry.{Entry}
@@ -41,7 +41,7 @@ use Rattle.vl_replay.specs.Passing.{Passes}
 use Rattle.vl_replay.specs.declared.replayer.choice.Choice.{Choice}
 use Rattle.vl_replay.specs.declared.replayer.choice.Choice.TheVariants.{Due, LeadsInto}
 use Rattle.vl_replay.specs.declared.replayer.passing.Passing.{Passing}
-use Rattle.vl_sequential.specs.declared.fails.Halt.{Halt}
+use Rattle.vl_script_model.specs.declared.fails.Halt.{Halt}
 use Rattle.vl_script.specs.declared.answer.Answer.{Answer as ScriptAnswer}
 use Rattle.vl_replay.proofs.Merges.Keeping.{KeepsMerges, KeepsPasses, SamePasses, same_jobs, same_passes}
 use Rattle.vl_replay.proofs.Passes.Named.{IsNoPass, jobs_beside, pass_no_job, passes_beside, passes_without_job}

@@ -1,29 +1,29 @@
 -- A line leaves the layout that its ruling leaves.
 use Rattle.std.proofs.Common.{◌≡◌, ℕ, ◌+◌, ◌==◌, Bool, true, false, cond, length, refl, ap, ◌∙◌}
 use Rattle.std.specs.Prelude.{Option, None, Some, nat_le}
-use Rattle.vl_layout.specs.AtAnswer.{Beginning, beginning_of}
-use Rattle.vl_layout.specs.Ruling.{Ruling, leaving}
-use Rattle.vl_layout.specs.Rulings.Begin as begin
-use Rattle.vl_layout.specs.Rulings.Begin.{BeginAnswer, begin_ruling, begun}
-use Rattle.vl_layout.specs.Rulings.Commit as commit
-use Rattle.vl_layout.specs.Rulings.Commit.{CommitAnswer, Transaction, commit_checked, commit_ended, commit_frame, commit_ruling}
-use Rattle.vl_layout.specs.Rulings.Commit.{commit_unless, committed}
-use Rattle.vl_layout.specs.Store.Commits.{conflict_in, history_in}
-use Rattle.vl_layout.specs.Store.Lines.{Name}
-use Rattle.vl_layout.specs.Store.Reading.{begin_as, begun_by, commit_by, committed_by}
-use Rattle.vl_layout.specs.Store.Things as things
-use Rattle.vl_layout.specs.Store.Things.{ATransaction, Thing, thing_of}
-use Rattle.vl_layout.specs.Tickets.{free_ticket, tickets_of}
-use Rattle.vl_layout.specs.declared.file_name.FileName.{FileName}
-use Rattle.vl_layout.specs.declared.layout.Layout.{Layout}
+use Rattle.vl_engine_model.specs.AtAnswer.{Beginning, beginning_of}
+use Rattle.vl_engine_model.specs.Ruling.{Ruling, leaving}
+use Rattle.vl_engine_model.specs.Rulings.Begin as begin
+use Rattle.vl_engine_model.specs.Rulings.Begin.{BeginAnswer, begin_ruling, begun}
+use Rattle.vl_engine_model.specs.Rulings.Commit as commit
+use Rattle.vl_engine_model.specs.Rulings.Commit.{CommitAnswer, Transaction, commit_checked, commit_ended, commit_frame, commit_ruling}
+use Rattle.vl_engine_model.specs.Rulings.Commit.{commit_unless, committed}
+use Rattle.vl_engine_model.specs.Store.Commits.{conflict_in, history_in}
+use Rattle.vl_engine_model.specs.Store.Lines.{Name}
+use Rattle.vl_engine_model.specs.Store.Reading.{begin_as, begun_by, commit_by, committed_by}
+use Rattle.vl_engine_model.specs.Store.Things as things
+use Rattle.vl_engine_model.specs.Store.Things.{ATransaction, Thing, thing_of}
+use Rattle.vl_engine_model.specs.Tickets.{free_ticket, tickets_of}
+use Rattle.vl_engine_model.specs.declared.file_name.FileName.{FileName}
+use Rattle.vl_engine_model.specs.declared.layout.Layout.{Layout}
 use Rattle.vl_model.specs.Conflicts.{Named}
 use Rattle.vl_model.specs.Frames.{frame_length}
 use Rattle.vl_model.specs.History.{History, last_number}
 use Rattle.vl_model.specs.Limits.{max_commit_number, max_live}
 use Rattle.vl_model.specs.declared.counter.Counter.TheVariants as counter
-use Rattle.vl_sequential.specs.Sequential.{State, history_of}
-use Rattle.vl_sequential.specs.laws.Laws.{IsSound}
-use Rattle.vl_layout.specs.laws.CommitsLaws.{conflict_in-is}
+use Rattle.vl_script_model.specs.Sequential.{State, history_of}
+use Rattle.vl_script_model.specs.laws.Laws.{IsSound}
+use Rattle.vl_engine_model.specs.laws.CommitsLaws.{conflict_in-is}
 
 module _ (s : things.State) where
   abbrev h : History

@@ -1,19 +1,19 @@
 -- What a sweep leaves of merges and passes, and what lines of passes leave of the layout.
 use Rattle.std.proofs.Common.{◌≡◌, ℕ, List, refl}
 use Rattle.std.specs.Prelude.{Option, None, Some}
-use Rattle.vl_core.specs.Lasts.{Lasts}
-use Rattle.vl_layout.specs.Relocation.{Candidate, Pass}
-use Rattle.vl_layout.specs.Rulings.Sweep.{sweep_ruling, sweep_unless}
-use Rattle.vl_layout.specs.Store.Commits.{history_in}
-use Rattle.vl_layout.specs.Store.Dispatch.{batch_by, found_by, sweep_by}
-use Rattle.vl_layout.specs.Store.Lines.{Name}
-use Rattle.vl_layout.specs.Store.Things as things
-use Rattle.vl_layout.specs.Store.Things.{AJob, APass, ATransaction, AView, Thing}
-use Rattle.vl_layout.specs.declared.file_name.FileName.{FileName}
-use Rattle.vl_layout.specs.declared.layout.Layout.{Layout}
+use Rattle.vl_engine_laws.specs.Lasts.{Lasts}
+use Rattle.vl_engine_model.specs.Relocation.{Candidate, Pass}
+use Rattle.vl_engine_model.specs.Rulings.Sweep.{sweep_ruling, sweep_unless}
+use Rattle.vl_engine_model.specs.Store.Commits.{history_in}
+use Rattle.vl_engine_model.specs.Store.Dispatch.{batch_by, found_by, sweep_by}
+use Rattle.vl_engine_model.specs.Store.Lines.{Name}
+use Rattle.vl_engine_model.specs.Store.Things as things
+use Rattle.vl_engine_model.specs.Store.Things.{AJob, APass, ATransaction, AView, Thing}
+use Rattle.vl_engine_model.specs.declared.file_name.FileName.{FileName}
+use Rattle.vl_engine_model.specs.declared.layout.Layout.{Layout}
 use Rattle.vl_model.specs.History.{History}
 use Rattle.vl_seglog.specs.declared.sealed.SealedLog.{SealedLog}
-use Rattle.vl_layout.specs.Relocation as relocation
+use Rattle.vl_engine_model.specs.Relocation as relocation
 use Rattle.vl_replay.proofs.Merges.Keeping.{KeepsMerges, KeepsPasses, same_jobs, same_passes}
 
 -- it leaves merges and passes alone

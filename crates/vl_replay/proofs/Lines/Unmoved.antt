@@ -1,23 +1,23 @@
 -- Lines that change nothing: those whose name is in use, and those that are given no answer before anything was done.
 use Rattle.std.proofs.Common.{◌≡◌, ℕ, List, refl, ap, sym, ◌∙◌, subst, arith}
 use Rattle.std.specs.Prelude.{Option, None, Some, Result, Ok, Err, IsErr, OnOk}
-use Rattle.vl_core.specs.Shown.{Shown}
-use Rattle.vl_core.specs.declared.kept.Core.{Core}
+use Rattle.vl_engine_laws.specs.Shown.{Shown}
+use Rattle.vl_engine_laws.specs.declared.kept.Core.{Core}
 use Rattle.vl_disk.specs.DiskState.{DiskState}
 use Rattle.vl_disk.specs.Faults.{after_calls}
 use Rattle.vl_disk.specs.declared.watched.Watched.{Ghosts}
-use Rattle.vl_layout.specs.Store.Lines as store_lines
-use Rattle.vl_layout.specs.Store.Lines.{Name}
-use Rattle.vl_layout.specs.Store.Things.{Step, only, thing_of}
-use Rattle.vl_sequential.specs.Durable.{CarriesOut, LeadsTo}
-use Rattle.vl_sequential.specs.Halts.{HaltsByDisk}
-use Rattle.vl_sequential.specs.Sequential.{State, files_after, history_of, state_after, step_to}
-use Rattle.vl_sequential.specs.Stored.{IsStopped, IsStored}
-use Rattle.vl_sequential.specs.declared.fails.Halt.{Halt}
-use Rattle.vl_sequential.specs.laws.Betweens.{extends_itself}
-use Rattle.vl_sequential.specs.laws.DiskSteps.{IsWatched, opens_again, rests_until}
-use Rattle.vl_sequential.specs.laws.Extending.{line_extends}
-use Rattle.vl_sequential.specs.laws.ShownDisk.{shown_stays, stored_exactly}
+use Rattle.vl_engine_model.specs.Store.Lines as store_lines
+use Rattle.vl_engine_model.specs.Store.Lines.{Name}
+use Rattle.vl_engine_model.specs.Store.Things.{Step, only, thing_of}
+use Rattle.vl_script_model.specs.Durable.{CarriesOut, LeadsTo}
+use Rattle.vl_script_model.specs.Halts.{HaltsByDisk}
+use Rattle.vl_script_model.specs.Sequential.{State, files_after, history_of, state_after, step_to}
+use Rattle.vl_script_model.specs.Stored.{IsStopped, IsStored}
+use Rattle.vl_script_model.specs.declared.fails.Halt.{Halt}
+use Rattle.vl_script_model.specs.laws.Betweens.{extends_itself}
+use Rattle.vl_script_model.specs.laws.DiskSteps.{IsWatched, opens_again, rests_until}
+use Rattle.vl_script_model.specs.laws.Extending.{line_extends}
+use Rattle.vl_script_model.specs.laws.ShownDisk.{shown_stays, stored_exactly}
 use Rattle.vl_replay.specs.Passing.{TellsUsed, name_made}
 use Rattle.vl_replay.specs.Replaying.{MakesStep, StandsIn}
 use Rattle.vl_replay.specs.declared.replayer.open.Open.{Open}

@@ -1,18 +1,18 @@
 -- What a line makes of a state that plans a merge, whichever tables are chosen.
 use Rattle.std.proofs.Common.{◌≡◌, ℕ, ◌+◌, refl}
 use Rattle.vl_disk.specs.declared.name.Name.{Name as FileName}
-use Rattle.vl_layout.specs.Rulings.Drain.{drain_ruling}
-use Rattle.vl_layout.specs.Rulings.Plan.{plan_ruling}
-use Rattle.vl_layout.specs.Store.Dispatch.{plan_as}
-use Rattle.vl_layout.specs.Store.Lines.{Name}
-use Rattle.vl_layout.specs.Store.Things.{Step, thing_of}
+use Rattle.vl_engine_model.specs.Rulings.Drain.{drain_ruling}
+use Rattle.vl_engine_model.specs.Rulings.Plan.{plan_ruling}
+use Rattle.vl_engine_model.specs.Store.Dispatch.{plan_as}
+use Rattle.vl_engine_model.specs.Store.Lines.{Name}
+use Rattle.vl_engine_model.specs.Store.Things.{Step, thing_of}
 use Rattle.vl_replay.specs.Choosing.{chosen, line_for}
 use Rattle.vl_replay.specs.Replaying.{state_by_plan}
 use Rattle.vl_replay.specs.declared.replayer.choice.Choice.{Choice}
 use Rattle.vl_replay.specs.declared.replayer.choice.Choice.TheVariants.{Due, LeadsInto}
-use Rattle.vl_sequential.specs.Failing.{FailsAt, IsTableBetween}
-use Rattle.vl_sequential.specs.Sequential.{State, counted, history_of, state_after, step_to}
-use Rattle.vl_sequential.specs.laws.Growing.{plan_commits}
+use Rattle.vl_script_model.specs.Failing.{FailsAt, IsTableBetween}
+use Rattle.vl_script_model.specs.Sequential.{State, counted, history_of, state_after, step_to}
+use Rattle.vl_script_model.specs.laws.Growing.{plan_commits}
 
 -- what it is told is counted
 abbrev pub counted_step : Step → Step

@@ -9,12 +9,12 @@ use Rattle.std.specs.declared.cmp.Ordering.{Ordering}
 use Rattle.std.specs.declared.cmp.Ordering.TheVariants.{Less, Equal, Greater}
 use Rattle.std.proofs.lemmas.Slice.Eq.{bytes_eq-Decides}
 use Rattle.std.proofs.lemmas.Map.Text.{is_eq-slice_cmp}
-use Rattle.vl_layout.specs.Jobs.{AreDistinct, AreLent, tables_made}
-use Rattle.vl_layout.specs.Merging.{Sourced, if_so, inputs_of, is_dropped, is_shadowed, kept, kept_from}
-use Rattle.vl_layout.specs.Merging.{merged_entries, outside_of, outputs}
-use Rattle.vl_layout.specs.Sources.{numbers_of}
-use Rattle.vl_layout.specs.Store.Dispatch.{made_of}
-use Rattle.vl_layout.specs.declared.job.Job.{Job}
+use Rattle.vl_engine_model.specs.Jobs.{AreDistinct, AreLent, tables_made}
+use Rattle.vl_engine_model.specs.Merging.{Sourced, if_so, inputs_of, is_dropped, is_shadowed, kept, kept_from}
+use Rattle.vl_engine_model.specs.Merging.{merged_entries, outside_of, outputs}
+use Rattle.vl_engine_model.specs.Sources.{numbers_of}
+use Rattle.vl_engine_model.specs.Store.Dispatch.{made_of}
+use Rattle.vl_engine_model.specs.declared.job.Job.{Job}
 use Rattle.vl_model.specs.Entries.{by_order, entry_cmp, in_order, is_at, put}
 use Rattle.vl_model.specs.Keys.{key_cmp}
 use Rattle.vl_model.specs.Numbers.{has}

@@ -6,38 +6,38 @@ use Rattle.vl_disk.specs.DiskState.{DiskState}
 use Rattle.vl_disk.specs.declared.watched.Watched.{Ghosts}
 use Rattle.vl_disk.specs.declared.writer.Writer.{Ghosts as Writers}
 use Rattle.vl_engine.specs.Merging.{StandsOpen}
-use Rattle.vl_core.specs.Represents as engine
-use Rattle.vl_core.specs.Shown.{Shown}
-use Rattle.vl_core.specs.MayStep.{Fits}
-use Rattle.vl_core.specs.declared.kept.Core.{Core}
+use Rattle.vl_engine_laws.specs.Represents as engine
+use Rattle.vl_engine_laws.specs.Shown.{Shown}
+use Rattle.vl_engine_laws.specs.MayStep.{Fits}
+use Rattle.vl_engine_laws.specs.declared.kept.Core.{Core}
 use Rattle.vl_engine.specs.declared.open.OpenMerge.{OpenMerge}
-use Rattle.vl_layout.specs.Jobs.{Made, job_ended}
-use Rattle.vl_layout.specs.Store.Dispatch.{drop_by}
-use Rattle.vl_layout.specs.Store.Lines as store_lines
-use Rattle.vl_layout.specs.Store.Lines.{Name}
-use Rattle.vl_layout.specs.Store.Things.{AJob, Step, thing_in, thing_of, without_name, without_thing}
-use Rattle.vl_layout.specs.declared.job.Job.{Job}
-use Rattle.vl_layout.specs.declared.job.OpenJob.{OpenJob}
-use Rattle.vl_layout.specs.declared.layout.Layout.{Layout}
+use Rattle.vl_engine_model.specs.Jobs.{Made, job_ended}
+use Rattle.vl_engine_model.specs.Store.Dispatch.{drop_by}
+use Rattle.vl_engine_model.specs.Store.Lines as store_lines
+use Rattle.vl_engine_model.specs.Store.Lines.{Name}
+use Rattle.vl_engine_model.specs.Store.Things.{AJob, Step, thing_in, thing_of, without_name, without_thing}
+use Rattle.vl_engine_model.specs.declared.job.Job.{Job}
+use Rattle.vl_engine_model.specs.declared.job.OpenJob.{OpenJob}
+use Rattle.vl_engine_model.specs.declared.layout.Layout.{Layout}
 use Rattle.vl_model.specs.History.{History}
 use Rattle.vl_version.specs.declared.base.Base.{Base}
-use Rattle.vl_sequential.specs.Durable.{CarriesOut, HoldsState, LeadsTo}
+use Rattle.vl_script_model.specs.Durable.{CarriesOut, HoldsState, LeadsTo}
 use Rattle.vl_replay.specs.Replaying.{MakesStep, Merges, StandsIn, state_by}
-use Rattle.vl_sequential.specs.Sequential.{State, history_of}
+use Rattle.vl_script_model.specs.Sequential.{State, history_of}
 use Rattle.vl_replay.specs.Standing.{Corresponds, Stand, open_in}
-use Rattle.vl_sequential.specs.Stopped.{AreNumberedUpTo}
-use Rattle.vl_sequential.specs.Stored.{IsStopped, IsStored}
+use Rattle.vl_script_model.specs.Stopped.{AreNumberedUpTo}
+use Rattle.vl_script_model.specs.Stored.{IsStopped, IsStored}
 use Rattle.vl_replay.specs.declared.replayer.open.Open.{Open}
 use Rattle.vl_replay.specs.declared.replayer.open.Thing.{Thing as Opened}
 use Rattle.vl_replay.specs.declared.replayer.open.Thing.TheVariants.{Transaction, View}
 use Rattle.vl_replay.specs.declared.replayer.planned.Planned.{Planned}
-use Rattle.vl_sequential.specs.laws.Laws.{IsSound, state_after-sound}
+use Rattle.vl_script_model.specs.laws.Laws.{IsSound, state_after-sound}
 use Rattle.vl_script.specs.declared.answer.Answer.TheVariants as answers
 use Rattle.vl_script.specs.declared.line.Line.TheVariants as lines
-use Rattle.vl_sequential.specs.laws.DiskSteps.{IsWatched, opens_again, rests_until}
-use Rattle.vl_sequential.specs.laws.Betweens.{extends_same}
-use Rattle.vl_sequential.specs.laws.HeldDisk.{stored_by}
-use Rattle.vl_sequential.specs.laws.ShownDisk.{shown_stays, stored_exactly}
+use Rattle.vl_script_model.specs.laws.DiskSteps.{IsWatched, opens_again, rests_until}
+use Rattle.vl_script_model.specs.laws.Betweens.{extends_same}
+use Rattle.vl_script_model.specs.laws.HeldDisk.{stored_by}
+use Rattle.vl_script_model.specs.laws.ShownDisk.{shown_stays, stored_exactly}
 use Rattle.vl_replay.proofs.Merges.Planning.{IsBeside, ended_is_beside, stays_so}
 use Rattle.vl_replay.proofs.Names.Lookups.{taken_none, thing_gone, thing_left}
 use Rattle.vl_replay.proofs.Names.Standings.{same_or_not, stands_without}

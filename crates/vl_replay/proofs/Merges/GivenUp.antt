@@ -10,22 +10,22 @@ use Rattle.vl_disk.specs.declared.watched.Watched.{Ghosts}
 use Rattle.vl_disk.specs.declared.writer.Writer.{Ghosts as Writers}
 use Rattle.vl_compact.specs.Progress.{made_of}
 use Rattle.vl_engine.specs.Merging.{HasMerge, StandsOpen}
-use Rattle.vl_core.specs.Represents as engine
-use Rattle.vl_core.specs.Shown.{Shown}
-use Rattle.vl_core.specs.MayStep.{Fits}
-use Rattle.vl_core.specs.declared.kept.Core.{Core}
+use Rattle.vl_engine_laws.specs.Represents as engine
+use Rattle.vl_engine_laws.specs.Shown.{Shown}
+use Rattle.vl_engine_laws.specs.MayStep.{Fits}
+use Rattle.vl_engine_laws.specs.declared.kept.Core.{Core}
 use Rattle.vl_engine.specs.declared.open.OpenMerge.{OpenMerge}
-use Rattle.vl_layout.specs.Jobs.{AreLent, Made, job_ended}
-use Rattle.vl_layout.specs.Merging.{outputs}
-use Rattle.vl_layout.specs.Ruling.{pin_of}
-use Rattle.vl_layout.specs.Rulings.Abandon.{abandon_ruling}
-use Rattle.vl_layout.specs.Rulings.Plan.{with_job}
-use Rattle.vl_layout.specs.Store.Commits.{Commits, history_in}
-use Rattle.vl_layout.specs.Store.Lines.{Name}
-use Rattle.vl_layout.specs.Store.Things.{AJob, Step, thing_in, thing_of}
-use Rattle.vl_layout.specs.declared.job.Job.{Job}
-use Rattle.vl_layout.specs.declared.job.OpenJob.{OpenJob}
-use Rattle.vl_layout.specs.declared.layout.Layout.{Layout}
+use Rattle.vl_engine_model.specs.Jobs.{AreLent, Made, job_ended}
+use Rattle.vl_engine_model.specs.Merging.{outputs}
+use Rattle.vl_engine_model.specs.Ruling.{pin_of}
+use Rattle.vl_engine_model.specs.Rulings.Abandon.{abandon_ruling}
+use Rattle.vl_engine_model.specs.Rulings.Plan.{with_job}
+use Rattle.vl_engine_model.specs.Store.Commits.{Commits, history_in}
+use Rattle.vl_engine_model.specs.Store.Lines.{Name}
+use Rattle.vl_engine_model.specs.Store.Things.{AJob, Step, thing_in, thing_of}
+use Rattle.vl_engine_model.specs.declared.job.Job.{Job}
+use Rattle.vl_engine_model.specs.declared.job.OpenJob.{OpenJob}
+use Rattle.vl_engine_model.specs.declared.layout.Layout.{Layout}
 use Rattle.vl_model.specs.History.{History}
 use Rattle.vl_model.specs.Limits.{max_file_number}
 use Rattle.vl_model.specs.declared.counter.Counter.{Counter}
@@ -33,23 +33,23 @@ use Rattle.vl_version.specs.declared.base.Base.{Base}
 use Rattle.vl_replay.specs.Choosing.{line_for}
 use Rattle.vl_replay.specs.declared.replayer.choice.Choice.{Choice}
 use Rattle.vl_replay.specs.Drawn.{DrawsOn, EndsMerging, IsServing, Merged, drawn_all, drawn_state, numbers_from}
-use Rattle.vl_sequential.specs.Durable.{CarriesOut, CrashesShow, HoldsState, LeadsTo}
-use Rattle.vl_sequential.specs.Failing.{FailsAt, HasTables}
-use Rattle.vl_sequential.specs.Halts.{HaltsByDamage, HaltsByDisk, HaltsByRead, HaltsByReader}
+use Rattle.vl_script_model.specs.Durable.{CarriesOut, CrashesShow, HoldsState, LeadsTo}
+use Rattle.vl_script_model.specs.Failing.{FailsAt, HasTables}
+use Rattle.vl_script_model.specs.Halts.{HaltsByDamage, HaltsByDisk, HaltsByRead, HaltsByReader}
 use Rattle.vl_replay.specs.Replaying.{MakesStep, Merges, StandsIn, state_by_plan}
-use Rattle.vl_sequential.specs.Sequential.{State, history_of, state_after, step_to}
-use Rattle.vl_sequential.specs.Stopped.{AreNumberedUpTo}
-use Rattle.vl_sequential.specs.Stored.{IsStopped, IsStored}
-use Rattle.vl_sequential.specs.declared.fails.Halt.{Halt}
-use Rattle.vl_sequential.specs.declared.fails.Halt.TheVariants as halts
+use Rattle.vl_script_model.specs.Sequential.{State, history_of, state_after, step_to}
+use Rattle.vl_script_model.specs.Stopped.{AreNumberedUpTo}
+use Rattle.vl_script_model.specs.Stored.{IsStopped, IsStored}
+use Rattle.vl_script_model.specs.declared.fails.Halt.{Halt}
+use Rattle.vl_script_model.specs.declared.fails.Halt.TheVariants as halts
 use Rattle.vl_replay.specs.declared.replayer.open.Open.{Open}
 use Rattle.vl_replay.specs.Standing.{open_in}
 use Rattle.vl_script.specs.declared.answer.Answer.{Answer}
 use Rattle.vl_script.specs.declared.answer.Answer.TheVariants as answers
-use Rattle.vl_sequential.specs.laws.Betweens.{extends_same}
-use Rattle.vl_sequential.specs.laws.DiskSteps.{IsWatched, opens_again, rests_until}
-use Rattle.vl_sequential.specs.laws.HeldDisk.{stored_by}
-use Rattle.vl_sequential.specs.laws.ShownDisk.{shown_stays, stored_exactly}
+use Rattle.vl_script_model.specs.laws.Betweens.{extends_same}
+use Rattle.vl_script_model.specs.laws.DiskSteps.{IsWatched, opens_again, rests_until}
+use Rattle.vl_script_model.specs.laws.HeldDisk.{stored_by}
+use Rattle.vl_script_model.specs.laws.ShownDisk.{shown_stays, stored_exactly}
 use Rattle.vl_replay.proofs.CarryingLists.{next_drawn}
 use Rattle.vl_replay.proofs.CarryingRemoved.{LeavesDrawn}
 use Rattle.vl_replay.proofs.Merges.Carrying.{halted_leads}

@@ -24,41 +24,41 @@ use Rattle.vl_disk.specs.declared.watched.Watched.{Ghosts}
 use Rattle.vl_disk.specs.declared.writer.Writer.{Ghosts as Writers}
 use Rattle.vl_disk.specs.laws.NameMap.{get_inserted, get_inserted_other, same_or_other}
 use Rattle.std.specs.FinMap.{get}
-use Rattle.vl_core.specs.Carries.{Carries}
+use Rattle.vl_engine_laws.specs.Carries.{Carries}
 use Rattle.vl_engine.specs.Installing.{InstallFailed, InstallLeavesDisk, IsHandedIn, KeepsAllBut, MayInstall}
 use Rattle.vl_engine.specs.Installing.{StopsInstall, StopsSwitching, WritesInstall, at_manifest, at_table}
 use Rattle.vl_engine.specs.Installing.{install_otherwise, numbers_in}
 use Rattle.vl_engine.specs.Lent.{Opens}
 use Rattle.vl_engine.specs.Lent as lending
 use Rattle.vl_engine.specs.Merging.{HasAllMerge, StandsOpen, install_effects, install_outcome, made_numbers}
-use Rattle.vl_core.specs.Represents as engine
-use Rattle.vl_core.specs.Represents.{IsHeld, IsLive}
-use Rattle.vl_core.specs.Shown.{Shown}
-use Rattle.vl_core.specs.MayStep.{AreLogFiles, Fits, LeavesNumbers, MayStep}
+use Rattle.vl_engine_laws.specs.Represents as engine
+use Rattle.vl_engine_laws.specs.Represents.{IsHeld, IsLive}
+use Rattle.vl_engine_laws.specs.Shown.{Shown}
+use Rattle.vl_engine_laws.specs.MayStep.{AreLogFiles, Fits, LeavesNumbers, MayStep}
 use Rattle.vl_engine.specs.Taking.{StopsTaking, Takes, file_in, file_of_table, with_files}
 use Rattle.vl_engine.specs.UnderWay.{IsUnderWay}
 use Rattle.vl_engine.specs.declared.fails.InstallFail.{InstallFail}
 use Rattle.vl_engine.specs.declared.fails.InstallFail.TheVariants as uninstalled
-use Rattle.vl_core.specs.declared.kept.Core.{Core}
+use Rattle.vl_engine_laws.specs.declared.kept.Core.{Core}
 use Rattle.vl_engine.specs.declared.open.OpenMerge.{OpenMerge}
-use Rattle.vl_core.specs.laws.InstallRulings.{GoesOn, install_made_so, install_version}
-use Rattle.vl_layout.specs.Decides.{Answered, Decides}
-use Rattle.vl_layout.specs.Jobs.{AreLent, Made, lent_numbers, loose, tables_made}
-use Rattle.vl_layout.specs.Merging.{outputs}
-use Rattle.vl_layout.specs.Ruling.{Ruling}
-use Rattle.vl_layout.specs.Rulings.Sweep.{job_pin, pass_pin}
-use Rattle.vl_layout.specs.Rulings.Install as rulings
-use Rattle.vl_layout.specs.Rulings.Install.{InstallAnswer, install_ruling, race}
-use Rattle.vl_layout.specs.Sources.{numbers_of}
-use Rattle.vl_layout.specs.Store.Dispatch.{install_by, install_told}
-use Rattle.vl_layout.specs.Store.Lines as store_lines
-use Rattle.vl_layout.specs.Store.Lines.{Name}
-use Rattle.vl_layout.specs.Store.Things.{AJob, APass, ATransaction, AView, Step, Thing, only, thing_in, thing_of}
-use Rattle.vl_layout.specs.Store.Things.{without_name, without_thing}
-use Rattle.vl_layout.specs.declared.job.Job.{Job}
-use Rattle.vl_layout.specs.declared.job.OpenJob.{OpenJob}
-use Rattle.vl_layout.specs.declared.layout.Layout.{Layout}
-use Rattle.vl_layout.specs.declared.live.Live.{Live}
+use Rattle.vl_engine_laws.specs.laws.InstallRulings.{GoesOn, install_made_so, install_version}
+use Rattle.vl_engine_model.specs.Decides.{Answered, Decides}
+use Rattle.vl_engine_model.specs.Jobs.{AreLent, Made, lent_numbers, loose, tables_made}
+use Rattle.vl_engine_model.specs.Merging.{outputs}
+use Rattle.vl_engine_model.specs.Ruling.{Ruling}
+use Rattle.vl_engine_model.specs.Rulings.Sweep.{job_pin, pass_pin}
+use Rattle.vl_engine_model.specs.Rulings.Install as rulings
+use Rattle.vl_engine_model.specs.Rulings.Install.{InstallAnswer, install_ruling, race}
+use Rattle.vl_engine_model.specs.Sources.{numbers_of}
+use Rattle.vl_engine_model.specs.Store.Dispatch.{install_by, install_told}
+use Rattle.vl_engine_model.specs.Store.Lines as store_lines
+use Rattle.vl_engine_model.specs.Store.Lines.{Name}
+use Rattle.vl_engine_model.specs.Store.Things.{AJob, APass, ATransaction, AView, Step, Thing, only, thing_in, thing_of}
+use Rattle.vl_engine_model.specs.Store.Things.{without_name, without_thing}
+use Rattle.vl_engine_model.specs.declared.job.Job.{Job}
+use Rattle.vl_engine_model.specs.declared.job.OpenJob.{OpenJob}
+use Rattle.vl_engine_model.specs.declared.layout.Layout.{Layout}
+use Rattle.vl_engine_model.specs.declared.live.Live.{Live}
 use Rattle.vl_manifest.specs.Switching.{WhileSwitching}
 use Rattle.vl_mem.specs.laws.CrashChance.{IsTornByPieces}
 use Rattle.vl_model.specs.History.{History, last_number}
@@ -68,31 +68,31 @@ use Rattle.vl_model.specs.declared.entry.Entry.{Entry}
 use Rattle.vl_recover.specs.crash.Alike.{IsLeft}
 use Rattle.vl_recover.specs.crash.Held.{AllSettled}
 use Rattle.vl_version.specs.declared.base.Base.{Base}
-use Rattle.vl_sequential.specs.Between.{ShowsBetween}
-use Rattle.vl_sequential.specs.Durable.{CarriesOut, CrashesShow, HoldsCommits, HoldsState, LeadsTo, StopsWithin}
-use Rattle.vl_sequential.specs.Failing.{IsTableOf}
-use Rattle.vl_sequential.specs.Halts.{HaltsByDisk, HaltsByRead}
+use Rattle.vl_script_model.specs.Between.{ShowsBetween}
+use Rattle.vl_script_model.specs.Durable.{CarriesOut, CrashesShow, HoldsCommits, HoldsState, LeadsTo, StopsWithin}
+use Rattle.vl_script_model.specs.Failing.{IsTableOf}
+use Rattle.vl_script_model.specs.Halts.{HaltsByDisk, HaltsByRead}
 use Rattle.vl_replay.specs.Handed.{CanHandIn}
 use Rattle.vl_replay.specs.Replaying.{IsWaiting, MakesStep, Merges, StandsIn, TakesPlanned, Waits, state_by}
-use Rattle.vl_sequential.specs.Sequential.{IsTold, State, history_of, state_after, step_to, without_lengths}
+use Rattle.vl_script_model.specs.Sequential.{IsTold, State, history_of, state_after, step_to, without_lengths}
 use Rattle.vl_replay.specs.Standing.{Corresponds, Stand, open_in}
-use Rattle.vl_sequential.specs.Stopped.{AreNumberedUpTo, StopsStep, step_failed}
-use Rattle.vl_sequential.specs.Stored.{IsStopped, IsStored}
-use Rattle.vl_sequential.specs.declared.fails.Halt.{Halt}
-use Rattle.vl_sequential.specs.declared.fails.Halt.TheVariants as why
+use Rattle.vl_script_model.specs.Stopped.{AreNumberedUpTo, StopsStep, step_failed}
+use Rattle.vl_script_model.specs.Stored.{IsStopped, IsStored}
+use Rattle.vl_script_model.specs.declared.fails.Halt.{Halt}
+use Rattle.vl_script_model.specs.declared.fails.Halt.TheVariants as why
 use Rattle.vl_replay.specs.declared.replayer.open.Open.{Open}
 use Rattle.vl_replay.specs.declared.replayer.open.Thing.{Thing as OpenThing}
 use Rattle.vl_replay.specs.declared.replayer.open.Thing.TheVariants.{Transaction, View}
 use Rattle.vl_replay.specs.declared.replayer.planned.Planned.{Planned}
-use Rattle.vl_sequential.specs.laws.Growing.{Keeps}
-use Rattle.vl_sequential.specs.laws.Laws.{IsSound, state_after-sound}
+use Rattle.vl_script_model.specs.laws.Growing.{Keeps}
+use Rattle.vl_script_model.specs.laws.Laws.{IsSound, state_after-sound}
 use Rattle.vl_script.specs.declared.answer.Answer.{Answer}
 use Rattle.vl_script.specs.declared.answer.Answer.TheVariants as answers
 use Rattle.vl_script.specs.declared.line.Line.TheVariants as lines
-use Rattle.vl_sequential.specs.laws.Betweens.{extends_itself}
+use Rattle.vl_script_model.specs.laws.Betweens.{extends_itself}
 use Rattle.vl_replay.proofs.Disk.Carried.{quiet_carries}
-use Rattle.vl_sequential.specs.laws.DiskSteps.{IsWatched}
-use Rattle.vl_sequential.specs.laws.HeldDisk.{stored_by}
+use Rattle.vl_script_model.specs.laws.DiskSteps.{IsWatched}
+use Rattle.vl_script_model.specs.laws.HeldDisk.{stored_by}
 use Rattle.vl_replay.proofs.Disk.Stepped.{at_each, at_most}
 use Rattle.vl_replay.proofs.Merges.Handing.{handed_back, handed_in}
 use Rattle.vl_replay.proofs.Merges.Installs.{InstallsOf, IsNoHalt, install_installs}
@@ -102,7 +102,7 @@ use Rattle.vl_replay.proofs.Names.Lookups.{taken_none, thing_gone, thing_left}
 use Rattle.vl_replay.proofs.Names.Making.{only_makes}
 use Rattle.vl_replay.proofs.Names.Serving.{represents}
 use Rattle.vl_replay.proofs.Names.Standings.{same_or_not, stands_without}
-use Rattle.vl_sequential.specs.laws.TornSteps.{settled_torn, switching_torn}
+use Rattle.vl_script_model.specs.laws.TornSteps.{settled_torn, switching_torn}
 
 none_some : {T : Type 0} (x : T) → None ≡ Some x → ⊥
 none_some x e = cc

@@ -2,23 +2,23 @@
 use Rattle.std.proofs.Common.{◌≡◌, ℕ, ◌-◌, ◌==◌, Bool, true, false, cond, not, List, [], ◌∷◌, ◌++◌, map, refl, ap, sym, ◌∙◌}
 use Rattle.std.specs.List.{filter, flat_map}
 use Rattle.std.specs.Prelude.{Option, None, Some}
-use Rattle.vl_core.specs.Represents.{IsLive}
-use Rattle.vl_layout.specs.Jobs.{Made, job_ended, loose}
-use Rattle.vl_layout.specs.Levels.{at_level, in_key_order, is_among, is_before, replaced, without}
-use Rattle.vl_layout.specs.Ruling.{Ruling, has_no_version, is_idle, leaving, retired_at}
-use Rattle.vl_layout.specs.Rulings.Sweep.{is_held}
-use Rattle.vl_layout.specs.Rulings.Install as rulings
-use Rattle.vl_layout.specs.Rulings.Install.{InstallAnswer, install_checked, install_ruling, install_unless, installed}
-use Rattle.vl_layout.specs.Rulings.Install.{moved_since, race}
-use Rattle.vl_layout.specs.Sources.{log_of, rising, table_of, tables}
-use Rattle.vl_layout.specs.declared.file_name.FileName.{FileName}
-use Rattle.vl_layout.specs.declared.file_name.Retired.{Retired}
-use Rattle.vl_layout.specs.declared.job.Job.{Job}
-use Rattle.vl_layout.specs.declared.job.Target.{Target}
-use Rattle.vl_layout.specs.declared.job.Target.TheVariants.{InPlace, Level}
-use Rattle.vl_layout.specs.declared.layout.Layout.{Layout}
-use Rattle.vl_layout.specs.declared.live.Pin.{Pin}
-use Rattle.vl_layout.specs.declared.table.Table.{Table}
+use Rattle.vl_engine_laws.specs.Represents.{IsLive}
+use Rattle.vl_engine_model.specs.Jobs.{Made, job_ended, loose}
+use Rattle.vl_engine_model.specs.Levels.{at_level, in_key_order, is_among, is_before, replaced, without}
+use Rattle.vl_engine_model.specs.Ruling.{Ruling, has_no_version, is_idle, leaving, retired_at}
+use Rattle.vl_engine_model.specs.Rulings.Sweep.{is_held}
+use Rattle.vl_engine_model.specs.Rulings.Install as rulings
+use Rattle.vl_engine_model.specs.Rulings.Install.{InstallAnswer, install_checked, install_ruling, install_unless, installed}
+use Rattle.vl_engine_model.specs.Rulings.Install.{moved_since, race}
+use Rattle.vl_engine_model.specs.Sources.{log_of, rising, table_of, tables}
+use Rattle.vl_engine_model.specs.declared.file_name.FileName.{FileName}
+use Rattle.vl_engine_model.specs.declared.file_name.Retired.{Retired}
+use Rattle.vl_engine_model.specs.declared.job.Job.{Job}
+use Rattle.vl_engine_model.specs.declared.job.Target.{Target}
+use Rattle.vl_engine_model.specs.declared.job.Target.TheVariants.{InPlace, Level}
+use Rattle.vl_engine_model.specs.declared.layout.Layout.{Layout}
+use Rattle.vl_engine_model.specs.declared.live.Pin.{Pin}
+use Rattle.vl_engine_model.specs.declared.table.Table.{Table}
 use Rattle.vl_model.specs.Conflicts.{Named}
 use Rattle.vl_model.specs.History.{History}
 use Rattle.vl_model.specs.declared.counter.Counter.TheVariants as counter

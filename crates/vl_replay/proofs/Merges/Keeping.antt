@@ -5,34 +5,34 @@ use Rattle.std.proofs.Common.{List, [], ◌∷◌, length, refl, ap, sym, ◌∙
 use Rattle.std.specs.Prelude.{Option, None, Some, nat_le, nat_lt}
 use Rattle.std.specs.FinMap.{find, put}
 use Rattle.std.specs.Ordering.{eq_by_cmp}
-use Rattle.vl_layout.specs.AtAnswer.{Beginning, beginning_of}
-use Rattle.vl_layout.specs.Jobs.{Made}
-use Rattle.vl_layout.specs.Ruling.{Ruling, StepAnswer, has_no_number, has_no_version, leaving}
-use Rattle.vl_layout.specs.Rulings.Begin as begin
-use Rattle.vl_layout.specs.Rulings.Begin.{BeginAnswer, begin_ruling, begun}
-use Rattle.vl_layout.specs.Rulings.Commit as commit
-use Rattle.vl_layout.specs.Rulings.Commit.{CommitAnswer, Transaction, commit_checked, commit_ended, commit_frame, commit_unless, committed}
-use Rattle.vl_layout.specs.Rulings.Flush.{flush_of, flush_unless}
-use Rattle.vl_layout.specs.Rulings.Keep.{keep_unless}
-use Rattle.vl_layout.specs.Rulings.Rotate.{rotate_of, rotate_unless}
-use Rattle.vl_layout.specs.Sources.{oldest}
-use Rattle.vl_layout.specs.Store.Commits.{conflict_in, history_in}
-use Rattle.vl_layout.specs.Store.Dispatch.{drop_by, keep_by, step_by}
-use Rattle.vl_layout.specs.Store.Lines.{Answer, Name}
-use Rattle.vl_layout.specs.Store.Reading.{a_transaction, a_view, begin_as, begun_by, commit_by, committed_by}
-use Rattle.vl_layout.specs.Store.Reading.{get_at_by, get_by, get_own, is_small_enough, scan_by, write_by}
-use Rattle.vl_layout.specs.Store.Things as things
-use Rattle.vl_layout.specs.Store.Things.{AJob, APass, ATransaction, AView, Step, Thing, named, only, thing_in, thing_of}
-use Rattle.vl_layout.specs.Store.Things.{without_name}
-use Rattle.vl_layout.specs.Tickets.{free_ticket, tickets_of}
-use Rattle.vl_layout.specs.declared.file_name.FileName.{FileName}
-use Rattle.vl_layout.specs.declared.job.Job.{Job}
-use Rattle.vl_layout.specs.declared.job.OpenJob.{OpenJob}
-use Rattle.vl_layout.specs.declared.job.OpenPass.{OpenPass}
-use Rattle.vl_layout.specs.declared.table.Table.{Table}
-use Rattle.vl_layout.specs.Relocation.{Candidate, Pass}
-use Rattle.vl_layout.specs.declared.layout.Layout.{Layout}
-use Rattle.vl_layout.specs.declared.segment.Segment.{Segment}
+use Rattle.vl_engine_model.specs.AtAnswer.{Beginning, beginning_of}
+use Rattle.vl_engine_model.specs.Jobs.{Made}
+use Rattle.vl_engine_model.specs.Ruling.{Ruling, StepAnswer, has_no_number, has_no_version, leaving}
+use Rattle.vl_engine_model.specs.Rulings.Begin as begin
+use Rattle.vl_engine_model.specs.Rulings.Begin.{BeginAnswer, begin_ruling, begun}
+use Rattle.vl_engine_model.specs.Rulings.Commit as commit
+use Rattle.vl_engine_model.specs.Rulings.Commit.{CommitAnswer, Transaction, commit_checked, commit_ended, commit_frame, commit_unless, committed}
+use Rattle.vl_engine_model.specs.Rulings.Flush.{flush_of, flush_unless}
+use Rattle.vl_engine_model.specs.Rulings.Keep.{keep_unless}
+use Rattle.vl_engine_model.specs.Rulings.Rotate.{rotate_of, rotate_unless}
+use Rattle.vl_engine_model.specs.Sources.{oldest}
+use Rattle.vl_engine_model.specs.Store.Commits.{conflict_in, history_in}
+use Rattle.vl_engine_model.specs.Store.Dispatch.{drop_by, keep_by, step_by}
+use Rattle.vl_engine_model.specs.Store.Lines.{Answer, Name}
+use Rattle.vl_engine_model.specs.Store.Reading.{a_transaction, a_view, begin_as, begun_by, commit_by, committed_by}
+use Rattle.vl_engine_model.specs.Store.Reading.{get_at_by, get_by, get_own, is_small_enough, scan_by, write_by}
+use Rattle.vl_engine_model.specs.Store.Things as things
+use Rattle.vl_engine_model.specs.Store.Things.{AJob, APass, ATransaction, AView, Step, Thing, named, only, thing_in, thing_of}
+use Rattle.vl_engine_model.specs.Store.Things.{without_name}
+use Rattle.vl_engine_model.specs.Tickets.{free_ticket, tickets_of}
+use Rattle.vl_engine_model.specs.declared.file_name.FileName.{FileName}
+use Rattle.vl_engine_model.specs.declared.job.Job.{Job}
+use Rattle.vl_engine_model.specs.declared.job.OpenJob.{OpenJob}
+use Rattle.vl_engine_model.specs.declared.job.OpenPass.{OpenPass}
+use Rattle.vl_engine_model.specs.declared.table.Table.{Table}
+use Rattle.vl_engine_model.specs.Relocation.{Candidate, Pass}
+use Rattle.vl_engine_model.specs.declared.layout.Layout.{Layout}
+use Rattle.vl_engine_model.specs.declared.segment.Segment.{Segment}
 use Rattle.vl_model.specs.Conflicts.{Named}
 use Rattle.vl_model.specs.Formats.{log_format}
 use Rattle.vl_model.specs.Frames.{frame_length}
@@ -43,7 +43,7 @@ use Rattle.vl_model.specs.declared.change.Change.{Change}
 use Rattle.vl_model.specs.declared.counter.Counter.TheVariants as counter
 use Rattle.vl_model.specs.declared.log_frame.LogFrame.{LogFrame}
 use Rattle.vl_model.specs.declared.way.Way.{Way}
-use Rattle.vl_sequential.specs.Readers.{IsReader}
+use Rattle.vl_script_model.specs.Readers.{IsReader}
 use Rattle.vl_replay.proofs.Names.Lookups.{named_so, own_name, thing_beside, thing_gone, thing_left, thing_put}
 
 -- the same names stand for the same things that don't read: merges and passes

@@ -5,17 +5,17 @@ use Rattle.vl_compact.specs.declared.job.Job.{Job as TheJob}
 use Rattle.vl_disk.specs.DiskState.{DiskState}
 use Rattle.vl_disk.specs.declared.writer.Writer.{Ghosts as Writers}
 use Rattle.vl_engine.specs.Merging.{FitsReaders, HasMerge, StandsOpen}
-use Rattle.vl_core.specs.Represents as engine
-use Rattle.vl_core.specs.MayStep.{Fits}
-use Rattle.vl_core.specs.declared.kept.Core.{Core}
+use Rattle.vl_engine_laws.specs.Represents as engine
+use Rattle.vl_engine_laws.specs.MayStep.{Fits}
+use Rattle.vl_engine_laws.specs.declared.kept.Core.{Core}
 use Rattle.vl_engine.specs.declared.open.OpenMerge.{OpenMerge}
-use Rattle.vl_layout.specs.Ruling.{Ruling, pin_of}
-use Rattle.vl_layout.specs.declared.job.Job.{Job}
+use Rattle.vl_engine_model.specs.Ruling.{Ruling, pin_of}
+use Rattle.vl_engine_model.specs.declared.job.Job.{Job}
 use Rattle.vl_version.specs.declared.base.Base.{Base}
 use Rattle.vl_replay.specs.Choosing.{chosen}
 use Rattle.vl_replay.specs.Drawn.{IsPlanned}
 use Rattle.vl_replay.specs.Replaying.{StandsIn}
-use Rattle.vl_sequential.specs.Sequential.{State, history_of}
+use Rattle.vl_script_model.specs.Sequential.{State, history_of}
 use Rattle.vl_replay.specs.declared.replayer.choice.Choice.{Choice}
 use Rattle.vl_replay.specs.declared.replayer.open.Open.{Open}
 use Rattle.vl_replay.proofs.Merges.Planned.{Plans}

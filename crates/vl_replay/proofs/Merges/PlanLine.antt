@@ -8,23 +8,23 @@ use Rattle.vl_compact.specs.declared.job.Job.{Job as TheJob}
 use Rattle.vl_disk.specs.declared.watched.Watched.{Ghosts}
 use Rattle.vl_disk.specs.declared.writer.Writer.{Ghosts as Writers}
 use Rattle.vl_engine.specs.Merging.{FitsReaders, HasAllMerge, HasMerge, OpensMerge, StandsOpen, plan_outcome}
-use Rattle.vl_core.specs.Represents as engine
-use Rattle.vl_core.specs.Shown.{Shown}
-use Rattle.vl_core.specs.MayStep.{Fits}
-use Rattle.vl_core.specs.declared.kept.Core.{Core}
+use Rattle.vl_engine_laws.specs.Represents as engine
+use Rattle.vl_engine_laws.specs.Shown.{Shown}
+use Rattle.vl_engine_laws.specs.MayStep.{Fits}
+use Rattle.vl_engine_laws.specs.declared.kept.Core.{Core}
 use Rattle.vl_engine.specs.declared.open.OpenMerge.{OpenMerge}
-use Rattle.vl_layout.specs.Decides.{Answered, Decides, as_before, no_effects}
-use Rattle.vl_layout.specs.Jobs.{Made}
-use Rattle.vl_layout.specs.Merging.{merged_entries, outputs}
-use Rattle.vl_layout.specs.Ruling.{Ruling, leaving}
-use Rattle.vl_layout.specs.Rulings.Plan.{with_job}
-use Rattle.vl_layout.specs.Store.Dispatch.{plan_as, planned_by}
-use Rattle.vl_layout.specs.Store.Lines as store_lines
-use Rattle.vl_layout.specs.Store.Lines.{Name}
-use Rattle.vl_layout.specs.Store.Things as things
-use Rattle.vl_layout.specs.Store.Things.{AJob, Step, Thing, only, thing_of}
-use Rattle.vl_layout.specs.declared.job.Job.{Job}
-use Rattle.vl_layout.specs.declared.layout.Layout.{Layout}
+use Rattle.vl_engine_model.specs.Decides.{Answered, Decides, as_before, no_effects}
+use Rattle.vl_engine_model.specs.Jobs.{Made}
+use Rattle.vl_engine_model.specs.Merging.{merged_entries, outputs}
+use Rattle.vl_engine_model.specs.Ruling.{Ruling, leaving}
+use Rattle.vl_engine_model.specs.Rulings.Plan.{with_job}
+use Rattle.vl_engine_model.specs.Store.Dispatch.{plan_as, planned_by}
+use Rattle.vl_engine_model.specs.Store.Lines as store_lines
+use Rattle.vl_engine_model.specs.Store.Lines.{Name}
+use Rattle.vl_engine_model.specs.Store.Things as things
+use Rattle.vl_engine_model.specs.Store.Things.{AJob, Step, Thing, only, thing_of}
+use Rattle.vl_engine_model.specs.declared.job.Job.{Job}
+use Rattle.vl_engine_model.specs.declared.layout.Layout.{Layout}
 use Rattle.vl_model.specs.History.{History}
 use Rattle.vl_model.specs.Limits.{max_file_number}
 use Rattle.vl_model.specs.declared.counter.Counter.{Counter}
@@ -32,20 +32,20 @@ use Rattle.vl_version.specs.declared.base.Base.{Base}
 use Rattle.vl_replay.specs.Choosing.{chosen, line_for}
 use Rattle.vl_replay.specs.declared.replayer.choice.Choice.{Choice}
 use Rattle.vl_replay.specs.Drawn.{EndsMerging, HasTablesFrom, IsPlanned, IsServing, Merged, drawn_state}
-use Rattle.vl_sequential.specs.Durable.{CarriesOut, HoldsState}
-use Rattle.vl_sequential.specs.Halts.{HaltsByDisk}
+use Rattle.vl_script_model.specs.Durable.{CarriesOut, HoldsState}
+use Rattle.vl_script_model.specs.Halts.{HaltsByDisk}
 use Rattle.vl_replay.specs.Handed.{CanHandIn, MayHandIn}
 use Rattle.vl_replay.specs.Replaying.{MakesStep, Merges, StandsIn, Waits, state_by_plan}
-use Rattle.vl_sequential.specs.Sequential.{IsTold, State, history_of, state_after, step_to}
+use Rattle.vl_script_model.specs.Sequential.{IsTold, State, history_of, state_after, step_to}
 use Rattle.vl_replay.specs.Standing.{open_in}
-use Rattle.vl_sequential.specs.Stored.{IsStopped, IsStored}
-use Rattle.vl_sequential.specs.declared.fails.Halt.{Halt}
+use Rattle.vl_script_model.specs.Stored.{IsStopped, IsStored}
+use Rattle.vl_script_model.specs.declared.fails.Halt.{Halt}
 use Rattle.vl_replay.specs.declared.replayer.open.Open.{Open}
 use Rattle.vl_replay.specs.declared.replayer.planned.Planned.{Planned}
 use Rattle.vl_script.specs.declared.answer.Answer.{Answer}
 use Rattle.vl_script.specs.declared.answer.Answer.TheVariants as answers
 use Rattle.vl_replay.proofs.Disk.Carried.{quiet_carries}
-use Rattle.vl_sequential.specs.laws.DiskSteps.{IsWatched}
+use Rattle.vl_script_model.specs.laws.DiskSteps.{IsWatched}
 use Rattle.vl_replay.proofs.Merges.Carrying.{planned_held, whole_leads}
 use Rattle.vl_replay.proofs.Merges.Choosing.{behind_for, counted_step, step_for}
 use Rattle.vl_replay.proofs.Merges.Keeping.{KeepsMerges, same_jobs}

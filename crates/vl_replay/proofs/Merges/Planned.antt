@@ -4,23 +4,23 @@ use Rattle.std.proofs.Common.{ap, sym, ◌∙◌, subst, arith}
 use Rattle.std.proofs.lemmas.Bool.Decides.{nat_tests}
 use Rattle.std.specs.List.{flat_map}
 use Rattle.std.specs.Prelude.{Option, None, Some, nat_le, nat_lt}
-use Rattle.vl_layout.specs.Levels.{due_from, due_tables, first_into, inputs_at, is_due, level_bytes}
-use Rattle.vl_layout.specs.Ruling.{leaving}
-use Rattle.vl_layout.specs.Rulings.Drain.{drain_of, drain_ruling, drain_unless}
-use Rattle.vl_layout.specs.Rulings.Fresh.{drawn}
-use Rattle.vl_layout.specs.Rulings.Plan.{job_of, plan_of, plan_ruling, plan_unless, planned, with_job}
-use Rattle.vl_layout.specs.Sources.{tables}
-use Rattle.vl_layout.specs.declared.job.Job.{Job}
-use Rattle.vl_layout.specs.declared.job.OpenJob.{OpenJob}
-use Rattle.vl_layout.specs.declared.job.Target.TheVariants.{InPlace, Level}
-use Rattle.vl_layout.specs.declared.layout.Layout.{Layout}
-use Rattle.vl_layout.specs.declared.table.Table.{Table}
+use Rattle.vl_engine_model.specs.Levels.{due_from, due_tables, first_into, inputs_at, is_due, level_bytes}
+use Rattle.vl_engine_model.specs.Ruling.{leaving}
+use Rattle.vl_engine_model.specs.Rulings.Drain.{drain_of, drain_ruling, drain_unless}
+use Rattle.vl_engine_model.specs.Rulings.Fresh.{drawn}
+use Rattle.vl_engine_model.specs.Rulings.Plan.{job_of, plan_of, plan_ruling, plan_unless, planned, with_job}
+use Rattle.vl_engine_model.specs.Sources.{tables}
+use Rattle.vl_engine_model.specs.declared.job.Job.{Job}
+use Rattle.vl_engine_model.specs.declared.job.OpenJob.{OpenJob}
+use Rattle.vl_engine_model.specs.declared.job.Target.TheVariants.{InPlace, Level}
+use Rattle.vl_engine_model.specs.declared.layout.Layout.{Layout}
+use Rattle.vl_engine_model.specs.declared.table.Table.{Table}
 use Rattle.vl_model.specs.History.{History}
 use Rattle.vl_replay.specs.Choosing.{chosen}
 use Rattle.vl_replay.specs.Drawn.{drawn_all}
 use Rattle.vl_replay.specs.declared.replayer.choice.Choice.{Choice}
 use Rattle.vl_replay.specs.declared.replayer.choice.Choice.TheVariants.{Due, LeadsInto}
-use Rattle.vl_sequential.specs.Durable.{without_merges}
+use Rattle.vl_script_model.specs.Durable.{without_merges}
 
 none_some : {T : Type 0} (x : T) → None ≡ Some x → ⊥
 none_some x e = cc

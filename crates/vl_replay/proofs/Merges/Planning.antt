@@ -5,36 +5,36 @@ use Rattle.std.specs.Prelude.{Option, None, Some, Ok}
 use Rattle.vl_compact.specs.declared.job.Job.{Job as TheJob}
 use Rattle.vl_disk.specs.DiskState.{DiskState}
 use Rattle.vl_disk.specs.declared.writer.Writer.{Ghosts as Writers}
-use Rattle.vl_core.specs.Represents.{IsLive}
-use Rattle.vl_core.specs.declared.kept.Core.{Core}
+use Rattle.vl_engine_laws.specs.Represents.{IsLive}
+use Rattle.vl_engine_laws.specs.declared.kept.Core.{Core}
 use Rattle.vl_engine.specs.declared.open.OpenMerge.{OpenMerge}
-use Rattle.vl_layout.specs.Jobs.{AreLent, Made, job_ended}
-use Rattle.vl_layout.specs.Merging.{kept, merged_entries, outputs}
-use Rattle.vl_layout.specs.Ruling.{Ruling, pin_of}
-use Rattle.vl_layout.specs.Rulings.Plan.{with_job}
-use Rattle.vl_layout.specs.Store.Dispatch.{fill, made_of, plan_as, planned_by}
-use Rattle.vl_layout.specs.Store.Lines as store_lines
-use Rattle.vl_layout.specs.Store.Lines.{Name}
-use Rattle.vl_layout.specs.Store.Things.{AJob, Step, Thing, named, thing_in, thing_of, with_thing}
-use Rattle.vl_layout.specs.declared.job.Job.{Job}
-use Rattle.vl_layout.specs.declared.layout.Layout.{Layout}
-use Rattle.vl_layout.specs.declared.live.Live.{Live}
+use Rattle.vl_engine_model.specs.Jobs.{AreLent, Made, job_ended}
+use Rattle.vl_engine_model.specs.Merging.{kept, merged_entries, outputs}
+use Rattle.vl_engine_model.specs.Ruling.{Ruling, pin_of}
+use Rattle.vl_engine_model.specs.Rulings.Plan.{with_job}
+use Rattle.vl_engine_model.specs.Store.Dispatch.{fill, made_of, plan_as, planned_by}
+use Rattle.vl_engine_model.specs.Store.Lines as store_lines
+use Rattle.vl_engine_model.specs.Store.Lines.{Name}
+use Rattle.vl_engine_model.specs.Store.Things.{AJob, Step, Thing, named, thing_in, thing_of, with_thing}
+use Rattle.vl_engine_model.specs.declared.job.Job.{Job}
+use Rattle.vl_engine_model.specs.declared.layout.Layout.{Layout}
+use Rattle.vl_engine_model.specs.declared.live.Live.{Live}
 use Rattle.vl_model.specs.History.{History}
 use Rattle.vl_model.specs.Limits.{max_file_number}
 use Rattle.vl_model.specs.declared.counter.Counter.{Counter}
 use Rattle.vl_model.specs.declared.counter.Counter.TheVariants as counters
 use Rattle.vl_version.specs.declared.base.Base.{Base}
 use Rattle.vl_replay.specs.Drawn.{HasTablesFrom, IsServing, drawn_all, drawn_state, numbers_from}
-use Rattle.vl_layout.specs.Sources.{tables}
-use Rattle.vl_layout.specs.declared.table.Table.{Table}
-use Rattle.vl_sequential.specs.Readers.{IsReader}
+use Rattle.vl_engine_model.specs.Sources.{tables}
+use Rattle.vl_engine_model.specs.declared.table.Table.{Table}
+use Rattle.vl_script_model.specs.Readers.{IsReader}
 use Rattle.vl_replay.specs.Replaying.{MakesStep, Merges, StandsIn, state_by}
-use Rattle.vl_sequential.specs.Sequential.{State, history_of, step_to}
+use Rattle.vl_script_model.specs.Sequential.{State, history_of, step_to}
 use Rattle.vl_replay.specs.Standing.{Corresponds, ReadsNoTable, Stand, is_held_table, open_in, pins_at}
 use Rattle.vl_replay.specs.declared.replayer.open.Open.{Open}
-use Rattle.vl_sequential.specs.laws.Laws.{IsSound, state_after-sound}
+use Rattle.vl_script_model.specs.laws.Laws.{IsSound, state_after-sound}
 use Rattle.vl_script.specs.declared.answer.Answer.TheVariants as answers
-use Rattle.vl_sequential.specs.laws.Betweens.{extends_itself}
+use Rattle.vl_script_model.specs.laws.Betweens.{extends_itself}
 use Rattle.vl_replay.specs.Choosing.{chosen, line_for}
 use Rattle.vl_replay.specs.declared.replayer.choice.Choice.{Choice}
 use Rattle.vl_replay.proofs.Merges.Choosing.{counted_step, step_for}

@@ -8,15 +8,15 @@ use Rattle.vl_compact.specs.declared.job.Job.{Job as TheJob}
 use Rattle.vl_disk.specs.declared.writer.Writer.{Ghosts as Writers}
 use Rattle.vl_engine.specs.Lent.{Opens}
 use Rattle.vl_engine.specs.declared.open.OpenMerge.{OpenMerge}
-use Rattle.vl_layout.specs.Jobs.{Made}
-use Rattle.vl_layout.specs.Store.Lines.{Name}
-use Rattle.vl_layout.specs.Store.Things as things
-use Rattle.vl_layout.specs.Store.Things.{AJob, Step, Thing, thing_in}
-use Rattle.vl_layout.specs.declared.job.Job.{Job}
-use Rattle.vl_layout.specs.declared.layout.Layout.{Layout}
+use Rattle.vl_engine_model.specs.Jobs.{Made}
+use Rattle.vl_engine_model.specs.Store.Lines.{Name}
+use Rattle.vl_engine_model.specs.Store.Things as things
+use Rattle.vl_engine_model.specs.Store.Things.{AJob, Step, Thing, thing_in}
+use Rattle.vl_engine_model.specs.declared.job.Job.{Job}
+use Rattle.vl_engine_model.specs.declared.layout.Layout.{Layout}
 use Rattle.vl_version.specs.declared.base.Base.{Base}
 use Rattle.vl_replay.specs.Replaying.{Merges, TakesPlanned, Waits}
-use Rattle.vl_sequential.specs.declared.fails.Halt.{Halt}
+use Rattle.vl_script_model.specs.declared.fails.Halt.{Halt}
 use Rattle.vl_replay.specs.declared.replayer.planned.Planned.{Planned}
 use Rattle.vl_replay.proofs.Merges.Keeping.{KeepsMerges, SameJobs}
 

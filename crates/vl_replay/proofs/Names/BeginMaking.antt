@@ -4,46 +4,46 @@ use Rattle.std.specs.Prelude.{◌≤◌, Option, None, Some, Ok, nat_le}
 use Rattle.std.specs.Option.{is_some}
 use Rattle.vl_disk.specs.DiskState.{DiskState}
 use Rattle.vl_engine.specs.Past.{beginning}
-use Rattle.vl_core.specs.LiesOver.{IsInMemory}
+use Rattle.vl_engine_laws.specs.LiesOver.{IsInMemory}
 use Rattle.vl_engine.specs.Sees.{IsNew, Sees, SeesAlone, asked_view}
 use Rattle.vl_back.specs.declared.back.Back.{Back}
-use Rattle.vl_core.specs.declared.kept.Core.{Core}
+use Rattle.vl_engine_laws.specs.declared.kept.Core.{Core}
 use Rattle.vl_engine.specs.declared.txn.Txn.{Txn}
 use Rattle.vl_engine.specs.declared.view.View.{View as EngineView}
-use Rattle.vl_layout.specs.AtAnswer.{Beginning, beginning_of}
-use Rattle.vl_layout.specs.Decides.{Answered, Decides, as_before, no_effects}
-use Rattle.vl_layout.specs.Ruling.{Ruling, ended, leaving, pin_of}
-use Rattle.vl_layout.specs.Rulings.Begin as begin
-use Rattle.vl_layout.specs.Rulings.Begin.{BeginAnswer, Begun, begin_ruling, begun}
-use Rattle.vl_layout.specs.Rulings.Commit.{Transaction as ATxn}
-use Rattle.vl_layout.specs.Sources.{tables}
-use Rattle.vl_layout.specs.Store.Commits.{history_in}
-use Rattle.vl_layout.specs.Store.Dispatch.{drop_by}
-use Rattle.vl_layout.specs.Store.Lines as store_lines
-use Rattle.vl_layout.specs.Store.Lines.{Name}
-use Rattle.vl_layout.specs.Store.Reading.{a_transaction, a_view, begin_as, begun_by}
-use Rattle.vl_layout.specs.Store.Things as store
-use Rattle.vl_layout.specs.Relocation.{Candidate, Pass}
-use Rattle.vl_layout.specs.Store.Things.{AJob, APass, ATransaction, AView, Step, named, only, thing_of, without_thing}
-use Rattle.vl_layout.specs.Tickets.{free_ticket, tickets_of}
-use Rattle.vl_layout.specs.laws.LowShows.{floor-begun}
-use Rattle.vl_layout.specs.declared.layout.Layout.{Layout}
+use Rattle.vl_engine_model.specs.AtAnswer.{Beginning, beginning_of}
+use Rattle.vl_engine_model.specs.Decides.{Answered, Decides, as_before, no_effects}
+use Rattle.vl_engine_model.specs.Ruling.{Ruling, ended, leaving, pin_of}
+use Rattle.vl_engine_model.specs.Rulings.Begin as begin
+use Rattle.vl_engine_model.specs.Rulings.Begin.{BeginAnswer, Begun, begin_ruling, begun}
+use Rattle.vl_engine_model.specs.Rulings.Commit.{Transaction as ATxn}
+use Rattle.vl_engine_model.specs.Sources.{tables}
+use Rattle.vl_engine_model.specs.Store.Commits.{history_in}
+use Rattle.vl_engine_model.specs.Store.Dispatch.{drop_by}
+use Rattle.vl_engine_model.specs.Store.Lines as store_lines
+use Rattle.vl_engine_model.specs.Store.Lines.{Name}
+use Rattle.vl_engine_model.specs.Store.Reading.{a_transaction, a_view, begin_as, begun_by}
+use Rattle.vl_engine_model.specs.Store.Things as store
+use Rattle.vl_engine_model.specs.Relocation.{Candidate, Pass}
+use Rattle.vl_engine_model.specs.Store.Things.{AJob, APass, ATransaction, AView, Step, named, only, thing_of, without_thing}
+use Rattle.vl_engine_model.specs.Tickets.{free_ticket, tickets_of}
+use Rattle.vl_engine_model.specs.laws.LowShows.{floor-begun}
+use Rattle.vl_engine_model.specs.declared.layout.Layout.{Layout}
 use Rattle.vl_model.specs.History.{History, last_number}
 use Rattle.vl_model.specs.Limits.{max_live}
 use Rattle.vl_replay.specs.Replaying.{MakesStep, StandsIn, state_by}
-use Rattle.vl_sequential.specs.Sequential.{IsTold, State, history_of}
+use Rattle.vl_script_model.specs.Sequential.{IsTold, State, history_of}
 use Rattle.vl_replay.specs.Standing.{Corresponds, IsTaken, Stand, open_in, ticket_of}
 use Rattle.vl_replay.specs.declared.replayer.open.Open.{Open}
 use Rattle.vl_replay.specs.declared.replayer.open.Thing.{Thing}
 use Rattle.vl_replay.specs.declared.replayer.open.Thing.TheVariants.{Transaction, View}
-use Rattle.vl_sequential.specs.laws.Laws.{IsSound, state_after-sound}
+use Rattle.vl_script_model.specs.laws.Laws.{IsSound, state_after-sound}
 use Rattle.vl_script.specs.declared.answer.Answer.{Answer}
 use Rattle.vl_script.specs.declared.answer.Answer.TheVariants as answers
 use Rattle.vl_script.specs.declared.line.Line.TheVariants as lines
-use Rattle.vl_sequential.specs.laws.Betweens.{extends_itself}
+use Rattle.vl_script_model.specs.laws.Betweens.{extends_itself}
 use Rattle.vl_replay.proofs.Names.Ending.{begins_transaction, begins_view, ends_so}
-use Rattle.vl_layout.specs.Jobs.{Made}
-use Rattle.vl_layout.specs.declared.job.Job.{Job}
+use Rattle.vl_engine_model.specs.Jobs.{Made}
+use Rattle.vl_engine_model.specs.declared.job.Job.{Job}
 use Rattle.vl_replay.proofs.Names.Making.{itself, its, none_taken, only_makes}
 use Rattle.vl_replay.proofs.Names.Reading.{no_reader}
 use Rattle.vl_replay.proofs.Names.Serving.{Serves}

@@ -9,22 +9,22 @@ use Rattle.vl_engine.specs.Sees.{asked}
 use Rattle.vl_engine.specs.declared.engine.Done.{Done}
 use Rattle.vl_engine.specs.declared.fails.CommitFail.{CommitFail}
 use Rattle.vl_engine.specs.declared.fails.CommitFail.TheVariants as fails
-use Rattle.vl_core.specs.declared.kept.Core.{Core}
+use Rattle.vl_engine_laws.specs.declared.kept.Core.{Core}
 use Rattle.vl_engine.specs.declared.txn.Txn.{Txn}
-use Rattle.vl_layout.specs.AtAnswer.{Beginning}
-use Rattle.vl_layout.specs.Decides.{Answered, Decides, Effects, Otherwise, Outcome, as_before}
-use Rattle.vl_layout.specs.Ruling.{Ruling, ended, leaving, logged}
-use Rattle.vl_layout.specs.Rulings.Commit as commit
-use Rattle.vl_layout.specs.Rulings.Commit.{CommitAnswer, Transaction as ATxn, commit_checked, commit_ended}
-use Rattle.vl_layout.specs.Rulings.Commit.{commit_frame, commit_lost, commit_ruling, commit_unless, committed}
-use Rattle.vl_layout.specs.Store.Commits.{history_in, with_changes}
-use Rattle.vl_layout.specs.Store.Lines as store_lines
-use Rattle.vl_layout.specs.Store.Lines.{Name}
-use Rattle.vl_layout.specs.Store.Reading.{commit_by, committed_by}
-use Rattle.vl_layout.specs.Store.Things.{ATransaction, Step, thing_of, without_name}
-use Rattle.vl_layout.specs.declared.file_name.FileName.{FileName}
-use Rattle.vl_layout.specs.declared.layout.Layout.{Layout}
-use Rattle.vl_layout.specs.laws.CommitsLaws.{conflict_in-is}
+use Rattle.vl_engine_model.specs.AtAnswer.{Beginning}
+use Rattle.vl_engine_model.specs.Decides.{Answered, Decides, Effects, Otherwise, Outcome, as_before}
+use Rattle.vl_engine_model.specs.Ruling.{Ruling, ended, leaving, logged}
+use Rattle.vl_engine_model.specs.Rulings.Commit as commit
+use Rattle.vl_engine_model.specs.Rulings.Commit.{CommitAnswer, Transaction as ATxn, commit_checked, commit_ended}
+use Rattle.vl_engine_model.specs.Rulings.Commit.{commit_frame, commit_lost, commit_ruling, commit_unless, committed}
+use Rattle.vl_engine_model.specs.Store.Commits.{history_in, with_changes}
+use Rattle.vl_engine_model.specs.Store.Lines as store_lines
+use Rattle.vl_engine_model.specs.Store.Lines.{Name}
+use Rattle.vl_engine_model.specs.Store.Reading.{commit_by, committed_by}
+use Rattle.vl_engine_model.specs.Store.Things.{ATransaction, Step, thing_of, without_name}
+use Rattle.vl_engine_model.specs.declared.file_name.FileName.{FileName}
+use Rattle.vl_engine_model.specs.declared.layout.Layout.{Layout}
+use Rattle.vl_engine_model.specs.laws.CommitsLaws.{conflict_in-is}
 use Rattle.vl_model.specs.Conflicts.{Named, first_conflict}
 use Rattle.vl_model.specs.Frames.{frame_length}
 use Rattle.vl_model.specs.History.{History, last_number, with_commit}
@@ -32,16 +32,16 @@ use Rattle.vl_model.specs.Limits.{max_commit_number}
 use Rattle.vl_model.specs.declared.counter.Counter.{Counter}
 use Rattle.vl_model.specs.declared.counter.Counter.TheVariants.{Commit as CommitNumber}
 use Rattle.vl_replay.specs.Replaying.{MakesStep, StandsIn, state_by}
-use Rattle.vl_sequential.specs.Sequential.{IsTold, State, history_of}
+use Rattle.vl_script_model.specs.Sequential.{IsTold, State, history_of}
 use Rattle.vl_replay.specs.Standing.{IsTaken, IsTransaction, Stand}
 use Rattle.vl_replay.specs.declared.replayer.open.Open.{Open}
 use Rattle.vl_replay.specs.declared.replayer.open.Thing.TheVariants.{Transaction}
-use Rattle.vl_sequential.specs.laws.Growing.{history_more}
-use Rattle.vl_sequential.specs.laws.Laws.{IsSound, state_after-sound}
+use Rattle.vl_script_model.specs.laws.Growing.{history_more}
+use Rattle.vl_script_model.specs.laws.Laws.{IsSound, state_after-sound}
 use Rattle.vl_script.specs.declared.answer.Answer.{Answer}
 use Rattle.vl_script.specs.declared.answer.Answer.TheVariants as answers
 use Rattle.vl_script.specs.declared.line.Line.TheVariants as lines
-use Rattle.vl_sequential.specs.laws.Betweens.{extends_one}
+use Rattle.vl_script_model.specs.laws.Betweens.{extends_one}
 use Rattle.vl_replay.proofs.Names.BeginMaking.{ended_stands, stands_as}
 use Rattle.vl_replay.proofs.Names.Ending.{ends_so}
 use Rattle.vl_replay.proofs.Names.Making.{txn_back}

@@ -3,41 +3,41 @@ use Rattle.std.proofs.Common.{◌≡◌, ℕ, List, [], ◌∷◌, ◌++◌, len
 use Rattle.std.specs.Prelude.{Option, None, Some}
 use Rattle.std.specs.FinMap.{empty, entries, len-empty, len-entries}
 use Rattle.vl_engine.specs.Past.{beginning}
-use Rattle.vl_core.specs.LiesOver.{IsInMemory}
-use Rattle.vl_core.specs.Represents.{IsLive}
+use Rattle.vl_engine_laws.specs.LiesOver.{IsInMemory}
+use Rattle.vl_engine_laws.specs.Represents.{IsLive}
 use Rattle.vl_engine.specs.Sees.{IsNew, Sees, SeesAlone, ShowsAt}
 use Rattle.vl_engine.specs.declared.past.Past.{Past}
 use Rattle.vl_engine.specs.declared.txn.Txn.{Txn}
 use Rattle.vl_engine.specs.declared.view.View.{View as EngineView}
 use Rattle.vl_engine.specs.laws.PastLaws.{past_later}
-use Rattle.vl_core.specs.laws.LiveLaws.{begun_lives, begun_was_free, lives_begun, lives_ended}
+use Rattle.vl_engine_laws.specs.laws.LiveLaws.{begun_lives, begun_was_free, lives_begun, lives_ended}
 use Rattle.vl_engine.specs.laws.SeesLaws.{shows_at_later}
-use Rattle.vl_layout.specs.AtAnswer.{Beginning}
-use Rattle.vl_layout_laws.specs.Live.{IsLivedIn}
-use Rattle.vl_layout.specs.Ruling.{ended}
-use Rattle.vl_layout.specs.Rulings.Begin.{begun}
-use Rattle.vl_layout.specs.Rulings.Commit.{Transaction as ATxn}
-use Rattle.vl_layout.specs.Sources.{tables}
-use Rattle.vl_layout.specs.Store.Lines.{Name}
-use Rattle.vl_layout.specs.Store.Things as store
-use Rattle.vl_layout.specs.Store.Things.{AJob, APass, ATransaction, AView, named, thing_in, without_name}
-use Rattle.vl_layout.specs.Store.Commits.{Changes}
-use Rattle.vl_layout.specs.Rulings.View.{View as LayoutView}
-use Rattle.vl_layout.specs.declared.live.Live.{Live}
+use Rattle.vl_engine_model.specs.AtAnswer.{Beginning}
+use Rattle.vl_engine_model_laws.specs.Live.{IsLivedIn}
+use Rattle.vl_engine_model.specs.Ruling.{ended}
+use Rattle.vl_engine_model.specs.Rulings.Begin.{begun}
+use Rattle.vl_engine_model.specs.Rulings.Commit.{Transaction as ATxn}
+use Rattle.vl_engine_model.specs.Sources.{tables}
+use Rattle.vl_engine_model.specs.Store.Lines.{Name}
+use Rattle.vl_engine_model.specs.Store.Things as store
+use Rattle.vl_engine_model.specs.Store.Things.{AJob, APass, ATransaction, AView, named, thing_in, without_name}
+use Rattle.vl_engine_model.specs.Store.Commits.{Changes}
+use Rattle.vl_engine_model.specs.Rulings.View.{View as LayoutView}
+use Rattle.vl_engine_model.specs.declared.live.Live.{Live}
 use Rattle.vl_model.specs.Keys.{Writes, key_cmp}
 use Rattle.vl_model.specs.Reads.{Read}
 use Rattle.vl_model.specs.declared.change.Change.{Change}
 use Rattle.vl_version.specs.declared.version.Version.{Version}
-use Rattle.vl_layout.specs.Tickets.{free_ticket, tickets_of}
-use Rattle.vl_layout.specs.declared.layout.Layout.{Layout}
+use Rattle.vl_engine_model.specs.Tickets.{free_ticket, tickets_of}
+use Rattle.vl_engine_model.specs.declared.layout.Layout.{Layout}
 use Rattle.vl_model.specs.History.{Extends, History, last_number}
 use Rattle.vl_model.specs.laws.ExplainedLaws.{explained-extends}
-use Rattle.vl_sequential.specs.Readers.{IsReader}
+use Rattle.vl_script_model.specs.Readers.{IsReader}
 use Rattle.vl_replay.specs.Standing.{Corresponds, IsTaken, ReadsNoTable, Stand, open_in, ticket_of}
 use Rattle.vl_replay.specs.declared.replayer.open.Open.{Open}
 use Rattle.vl_replay.specs.declared.replayer.open.Thing.{Thing}
 use Rattle.vl_replay.specs.declared.replayer.open.Thing.TheVariants.{Transaction, View}
-use Rattle.vl_sequential.specs.laws.Betweens.{extends_itself, last-extends}
+use Rattle.vl_script_model.specs.laws.Betweens.{extends_itself, last-extends}
 use Rattle.vl_replay.proofs.Names.Lookups.{taken_none}
 use Rattle.vl_replay.proofs.Names.Reading.{it_reads}
 use Rattle.vl_replay.proofs.Names.Standings.{stands_with, stands_without}

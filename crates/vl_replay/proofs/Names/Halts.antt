@@ -1,13 +1,13 @@
 -- Why a line that was carried out was given no answer.
 use Rattle.std.proofs.Common.{◌≡◌, ℕ, arith, subst, sym}
-use Rattle.vl_sequential.specs.Failing.{ByReader, ReaderFailed, beside}
+use Rattle.vl_script_model.specs.Failing.{ByReader, ReaderFailed, beside}
 use Rattle.std.specs.Prelude.{Ok, Err, Result}
 use Rattle.vl_disk.specs.Faults.{HasCause}
 use Rattle.vl_disk.specs.declared.name.Name.{Name}
-use Rattle.vl_sequential.specs.Halts.{HaltsByDamage, HaltsByDisk, HaltsByRead, HaltsByReader}
+use Rattle.vl_script_model.specs.Halts.{HaltsByDamage, HaltsByDisk, HaltsByRead, HaltsByReader}
 use Rattle.vl_replay.specs.Replaying.{OnlyNoMemory}
-use Rattle.vl_sequential.specs.declared.fails.Halt.{Halt}
-use Rattle.vl_sequential.specs.declared.fails.Halt.TheVariants as why
+use Rattle.vl_script_model.specs.declared.fails.Halt.{Halt}
+use Rattle.vl_script_model.specs.declared.fails.Halt.TheVariants as why
 
 -- want of memory alone is no failed read
 pub not_by_read : {T : Type 0} (result : Result T Halt) → OnlyNoMemory result → HaltsByRead result → ⊥

@@ -5,28 +5,28 @@ use Rattle.std.specs.Bool.{⊤}
 use Rattle.vl_disk.specs.DiskState.{DiskState}
 use Rattle.vl_disk.specs.Faults.{HasCause}
 use Rattle.vl_engine.specs.Keeping.{KeepFailed, keep_outcome}
-use Rattle.vl_core.specs.Represents as engine
-use Rattle.vl_core.specs.Represents.{IsLive}
+use Rattle.vl_engine_laws.specs.Represents as engine
+use Rattle.vl_engine_laws.specs.Represents.{IsLive}
 use Rattle.vl_engine.specs.declared.fails.KeepFail.{KeepFail}
 use Rattle.vl_engine.specs.declared.fails.KeepFail.TheVariants as unkept
-use Rattle.vl_core.specs.declared.kept.Core.{Core}
-use Rattle.vl_layout.specs.Decides.{Decides, Effects, Otherwise}
-use Rattle.vl_layout.specs.Ruling.{Ruling, leaving}
-use Rattle.vl_layout.specs.Rulings.Keep as rulings
-use Rattle.vl_layout.specs.Rulings.Keep.{KeepAnswer, keep_ruling, keep_unless, keeping}
-use Rattle.vl_layout.specs.Store.Dispatch.{keep_by, keep_told}
-use Rattle.vl_layout.specs.declared.file_name.FileName.{FileName}
-use Rattle.vl_layout.specs.declared.layout.Layout.{Layout}
-use Rattle.vl_layout.specs.declared.live.Live.{Live}
+use Rattle.vl_engine_laws.specs.declared.kept.Core.{Core}
+use Rattle.vl_engine_model.specs.Decides.{Decides, Effects, Otherwise}
+use Rattle.vl_engine_model.specs.Ruling.{Ruling, leaving}
+use Rattle.vl_engine_model.specs.Rulings.Keep as rulings
+use Rattle.vl_engine_model.specs.Rulings.Keep.{KeepAnswer, keep_ruling, keep_unless, keeping}
+use Rattle.vl_engine_model.specs.Store.Dispatch.{keep_by, keep_told}
+use Rattle.vl_engine_model.specs.declared.file_name.FileName.{FileName}
+use Rattle.vl_engine_model.specs.declared.layout.Layout.{Layout}
+use Rattle.vl_engine_model.specs.declared.live.Live.{Live}
 use Rattle.vl_model.specs.History.{History}
-use Rattle.vl_sequential.specs.Halts.{HaltsByDisk, HaltsByRead}
+use Rattle.vl_script_model.specs.Halts.{HaltsByDisk, HaltsByRead}
 use Rattle.vl_replay.specs.Replaying.{MakesStep, StandsIn, state_by}
-use Rattle.vl_sequential.specs.Sequential.{State, history_of, without_lengths}
+use Rattle.vl_script_model.specs.Sequential.{State, history_of, without_lengths}
 use Rattle.vl_replay.specs.Standing.{ReadsNoTable, Stand, told_keep}
-use Rattle.vl_sequential.specs.declared.fails.Halt.{Halt}
+use Rattle.vl_script_model.specs.declared.fails.Halt.{Halt}
 use Rattle.vl_replay.specs.declared.replayer.open.Open.{Open}
-use Rattle.vl_sequential.specs.laws.Laws.{IsSound}
-use Rattle.vl_sequential.specs.laws.Betweens.{extends_itself}
+use Rattle.vl_script_model.specs.laws.Laws.{IsSound}
+use Rattle.vl_script_model.specs.laws.Betweens.{extends_itself}
 use Rattle.vl_replay.proofs.Names.Ending.{still_stands}
 use Rattle.vl_replay.proofs.Names.Serving.{Serves}
 use Rattle.vl_script.specs.declared.answer.Answer.{Answer}

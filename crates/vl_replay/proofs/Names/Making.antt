@@ -5,22 +5,22 @@ use Rattle.std.specs.Bool.{⊤}
 use Rattle.vl_disk.specs.DiskState.{DiskState}
 use Rattle.vl_engine.specs.Past.{beginning}
 use Rattle.vl_engine.specs.Reading.{NotesNothing, OnlyReads, OnlyWrites}
-use Rattle.vl_core.specs.LiesOver.{IsInMemory}
-use Rattle.vl_core.specs.Represents.{IsLive}
+use Rattle.vl_engine_laws.specs.LiesOver.{IsInMemory}
+use Rattle.vl_engine_laws.specs.Represents.{IsLive}
 use Rattle.vl_engine.specs.Sees.{Sees, SeesAlone, asked, asked_view}
-use Rattle.vl_core.specs.declared.kept.Core.{Core}
+use Rattle.vl_engine_laws.specs.declared.kept.Core.{Core}
 use Rattle.vl_engine.specs.declared.txn.Txn.{Txn}
 use Rattle.vl_engine.specs.declared.view.View.{View as EngineView}
-use Rattle.vl_layout.specs.AtAnswer.{Beginning}
-use Rattle.vl_layout.specs.Rulings.Commit.{Transaction as ATxn}
-use Rattle.vl_layout.specs.Rulings.View.{View as LayoutView}
-use Rattle.vl_layout.specs.Store.Lines as store_lines
-use Rattle.vl_layout.specs.Store.Lines.{Name}
-use Rattle.vl_layout.specs.Store.Reading.{write_by}
-use Rattle.vl_layout.specs.Store.Things as store
-use Rattle.vl_layout.specs.Store.Things.{AJob, APass, ATransaction, AView, Step, only, thing_in, thing_of}
-use Rattle.vl_layout.specs.Relocation.{Candidate, Pass}
-use Rattle.vl_layout.specs.declared.layout.Layout.{Layout}
+use Rattle.vl_engine_model.specs.AtAnswer.{Beginning}
+use Rattle.vl_engine_model.specs.Rulings.Commit.{Transaction as ATxn}
+use Rattle.vl_engine_model.specs.Rulings.View.{View as LayoutView}
+use Rattle.vl_engine_model.specs.Store.Lines as store_lines
+use Rattle.vl_engine_model.specs.Store.Lines.{Name}
+use Rattle.vl_engine_model.specs.Store.Reading.{write_by}
+use Rattle.vl_engine_model.specs.Store.Things as store
+use Rattle.vl_engine_model.specs.Store.Things.{AJob, APass, ATransaction, AView, Step, only, thing_in, thing_of}
+use Rattle.vl_engine_model.specs.Relocation.{Candidate, Pass}
+use Rattle.vl_engine_model.specs.declared.layout.Layout.{Layout}
 use Rattle.vl_model.specs.History.{History}
 use Rattle.vl_model.specs.Reads.{Read}
 use Rattle.vl_model.specs.declared.change.Change.{Change}
@@ -28,15 +28,15 @@ use Rattle.vl_model.specs.declared.change.Change.TheVariants.{Delete as Deletes,
 use Rattle.vl_txn.specs.Refusals.{IsWritten}
 use Rattle.vl_txn.specs.declared.set_fail.SetFail.{SetFail}
 use Rattle.vl_replay.specs.Replaying.{MakesStep, StandsIn, state_by}
-use Rattle.vl_sequential.specs.Sequential.{IsTold, State, history_of}
-use Rattle.vl_layout.specs.Jobs.{Made}
-use Rattle.vl_layout.specs.declared.job.Job.{Job}
+use Rattle.vl_script_model.specs.Sequential.{IsTold, State, history_of}
+use Rattle.vl_engine_model.specs.Jobs.{Made}
+use Rattle.vl_engine_model.specs.declared.job.Job.{Job}
 use Rattle.vl_replay.specs.Standing.{Corresponds, IsTaken, IsTransaction, ReadsNoTable, Stand, open_in, told_write}
-use Rattle.vl_sequential.specs.declared.fails.Halt.{Halt}
+use Rattle.vl_script_model.specs.declared.fails.Halt.{Halt}
 use Rattle.vl_replay.specs.declared.replayer.open.Open.{Open}
 use Rattle.vl_replay.specs.declared.replayer.open.Thing.{Thing}
 use Rattle.vl_replay.specs.declared.replayer.open.Thing.TheVariants.{Transaction, View}
-use Rattle.vl_sequential.specs.laws.Laws.{IsSound, state_after-sound}
+use Rattle.vl_script_model.specs.laws.Laws.{IsSound, state_after-sound}
 use Rattle.vl_script.specs.declared.answer.Answer.{Answer}
 use Rattle.vl_script.specs.declared.answer.Answer.TheVariants as answers
 use Rattle.vl_script.specs.declared.line.Line.TheVariants as lines

@@ -8,26 +8,26 @@ use Rattle.vl_engine.specs.Reading.{NotesNothing, OnlyReads}
 use Rattle.vl_engine.specs.Sees.{Sees, SeesAlone}
 use Rattle.vl_engine.specs.declared.fails.AtFail.{AtFail}
 use Rattle.vl_engine.specs.declared.fails.AtFail.TheVariants as gone
-use Rattle.vl_core.specs.declared.kept.Core.{Core}
+use Rattle.vl_engine_laws.specs.declared.kept.Core.{Core}
 use Rattle.vl_engine.specs.declared.txn.Txn.{Txn}
 use Rattle.vl_engine.specs.declared.view.View.{View as EngineView}
-use Rattle.vl_layout.specs.AtAnswer.{AtAnswer, Beginning, at_answer, at_answer_by}
-use Rattle.vl_layout.specs.Rulings.Commit.{Transaction as ATxn}
-use Rattle.vl_layout.specs.Store.Commits.{at_answer_in, value_in}
-use Rattle.vl_layout.specs.Store.Lines.{Name}
-use Rattle.vl_layout.specs.Store.Reading.{get_at_by, told_at}
-use Rattle.vl_layout.specs.Store.Things.{Step, only, thing_of}
-use Rattle.vl_layout.specs.laws.CommitsLaws.{low_in-is, value_in-is}
+use Rattle.vl_engine_model.specs.AtAnswer.{AtAnswer, Beginning, at_answer, at_answer_by}
+use Rattle.vl_engine_model.specs.Rulings.Commit.{Transaction as ATxn}
+use Rattle.vl_engine_model.specs.Store.Commits.{at_answer_in, value_in}
+use Rattle.vl_engine_model.specs.Store.Lines.{Name}
+use Rattle.vl_engine_model.specs.Store.Reading.{get_at_by, told_at}
+use Rattle.vl_engine_model.specs.Store.Things.{Step, only, thing_of}
+use Rattle.vl_engine_model.specs.laws.CommitsLaws.{low_in-is, value_in-is}
 use Rattle.vl_model.specs.History.{History}
 use Rattle.vl_model.specs.Keys.{Stored}
 use Rattle.vl_model.specs.Reads.{Read}
 use Rattle.vl_model.specs.Versions.{low}
-use Rattle.vl_sequential.specs.Failing.{ReaderFailed}
-use Rattle.vl_sequential.specs.Halts.{HaltsByDamage, HaltsByDisk, HaltsByReader}
+use Rattle.vl_script_model.specs.Failing.{ReaderFailed}
+use Rattle.vl_script_model.specs.Halts.{HaltsByDamage, HaltsByDisk, HaltsByReader}
 use Rattle.vl_replay.specs.Replaying.{MakesStep, OnlyNoMemory, StandsIn}
-use Rattle.vl_sequential.specs.Sequential.{State, history_of, without_lengths}
+use Rattle.vl_script_model.specs.Sequential.{State, history_of, without_lengths}
 use Rattle.vl_replay.specs.Standing.{IsTaken, Stand, told_past, told_value}
-use Rattle.vl_sequential.specs.declared.fails.Halt.{Halt}
+use Rattle.vl_script_model.specs.declared.fails.Halt.{Halt}
 use Rattle.vl_replay.specs.declared.replayer.open.Open.{Open}
 use Rattle.vl_replay.specs.declared.replayer.open.Thing.TheVariants.{Transaction, View}
 use Rattle.vl_script.specs.declared.answer.Answer.{Answer}

@@ -5,21 +5,21 @@ use Rattle.std.specs.Prelude.{Option, None, Some, Result, Ok, Err, slice_index_o
 use Rattle.std.specs.Option.{option_map}
 use Rattle.std.specs.Ordering.{eq_by_cmp}
 use Rattle.vl_disk.specs.DiskState.{DiskState}
-use Rattle.vl_core.specs.declared.kept.Core.{Core}
-use Rattle.vl_layout.specs.Store.Lines.{Name}
-use Rattle.vl_layout.specs.Store.Things as store
-use Rattle.vl_layout.specs.Store.Lines as store_lines
-use Rattle.vl_layout.specs.Relocation.{Candidate, Pass}
-use Rattle.vl_layout.specs.Store.Things.{AJob, APass, Step, only, thing_of}
-use Rattle.vl_layout.specs.Jobs.{Made}
-use Rattle.vl_layout.specs.declared.job.Job.{Job}
-use Rattle.vl_layout.specs.declared.layout.Layout.{Layout}
+use Rattle.vl_engine_laws.specs.declared.kept.Core.{Core}
+use Rattle.vl_engine_model.specs.Store.Lines.{Name}
+use Rattle.vl_engine_model.specs.Store.Things as store
+use Rattle.vl_engine_model.specs.Store.Lines as store_lines
+use Rattle.vl_engine_model.specs.Relocation.{Candidate, Pass}
+use Rattle.vl_engine_model.specs.Store.Things.{AJob, APass, Step, only, thing_of}
+use Rattle.vl_engine_model.specs.Jobs.{Made}
+use Rattle.vl_engine_model.specs.declared.job.Job.{Job}
+use Rattle.vl_engine_model.specs.declared.layout.Layout.{Layout}
 use Rattle.vl_model.specs.History.{History}
 use Rattle.vl_model.specs.Keys.{key_cmp}
 use Rattle.vl_replay.specs.Replaying.{MakesStep, StandsIn}
-use Rattle.vl_sequential.specs.Sequential.{State}
+use Rattle.vl_script_model.specs.Sequential.{State}
 use Rattle.vl_replay.specs.Standing.{AreOnce, Corresponds, IsTaken, Stand, open_in, place_of}
-use Rattle.vl_sequential.specs.declared.fails.Halt.{Halt}
+use Rattle.vl_script_model.specs.declared.fails.Halt.{Halt}
 use Rattle.vl_replay.specs.declared.replayer.open.Open.{Open}
 use Rattle.vl_replay.specs.declared.replayer.open.Thing.{Thing}
 use Rattle.vl_script.specs.declared.answer.Answer.{Answer}

@@ -9,15 +9,15 @@ use Rattle.vl_engine.specs.Reading.{ReadFailed, either, value_under}
 use Rattle.vl_engine.specs.Sees.{Sees, SeesAlone}
 use Rattle.vl_engine.specs.declared.fails.ReadFail.{ReadFail}
 use Rattle.vl_engine.specs.declared.fails.ReadFail.TheVariants as unread
-use Rattle.vl_core.specs.declared.kept.Core.{Core}
+use Rattle.vl_engine_laws.specs.declared.kept.Core.{Core}
 use Rattle.vl_engine.specs.declared.txn.Txn.{Txn}
 use Rattle.vl_engine.specs.declared.view.View.{View as EngineView}
-use Rattle.vl_layout.specs.Store.Commits.{value_in}
-use Rattle.vl_layout.specs.Store.Lines as store_lines
-use Rattle.vl_layout.specs.Store.Lines.{Name}
-use Rattle.vl_layout.specs.Store.Reading.{get_by}
-use Rattle.vl_layout.specs.Store.Things.{Step, only, thing_of}
-use Rattle.vl_layout.specs.laws.CommitsLaws.{value_in-is}
+use Rattle.vl_engine_model.specs.Store.Commits.{value_in}
+use Rattle.vl_engine_model.specs.Store.Lines as store_lines
+use Rattle.vl_engine_model.specs.Store.Lines.{Name}
+use Rattle.vl_engine_model.specs.Store.Reading.{get_by}
+use Rattle.vl_engine_model.specs.Store.Things.{Step, only, thing_of}
+use Rattle.vl_engine_model.specs.laws.CommitsLaws.{value_in-is}
 use Rattle.vl_model.specs.History.{History, value_at}
 use Rattle.vl_model.specs.Keys.{Stored, is_key_length}
 use Rattle.vl_model.specs.Limits.{max_key_bytes}
@@ -27,14 +27,14 @@ use Rattle.vl_txn.specs.Refusals.{refused_key}
 use Rattle.vl_txn.specs.declared.key_fail.KeyFail.{KeyFail}
 use Rattle.vl_txn.specs.declared.key_fail.KeyFail.TheVariants.{EmptyKey, KeyTooLong}
 use Rattle.vl_replay.specs.Replaying.{MakesStep, OnlyNoMemory, StandsIn, state_by}
-use Rattle.vl_sequential.specs.Sequential.{State, as_told, history_of, without_lengths}
+use Rattle.vl_script_model.specs.Sequential.{State, as_told, history_of, without_lengths}
 use Rattle.vl_replay.specs.Standing.{IsTaken, tell_of, told_by, told_value}
-use Rattle.vl_sequential.specs.Failing.{ReaderFailed}
-use Rattle.vl_sequential.specs.Halts.{HaltsByDamage, HaltsByReader}
-use Rattle.vl_sequential.specs.declared.fails.Halt.{Halt}
+use Rattle.vl_script_model.specs.Failing.{ReaderFailed}
+use Rattle.vl_script_model.specs.Halts.{HaltsByDamage, HaltsByReader}
+use Rattle.vl_script_model.specs.declared.fails.Halt.{Halt}
 use Rattle.vl_replay.specs.declared.replayer.open.Open.{Open}
 use Rattle.vl_replay.specs.declared.replayer.open.Thing.TheVariants.{Transaction, View}
-use Rattle.vl_sequential.specs.laws.Laws.{IsSound, state_after-sound}
+use Rattle.vl_script_model.specs.laws.Laws.{IsSound, state_after-sound}
 use Rattle.vl_script.specs.declared.answer.Answer.{Answer}
 use Rattle.vl_script.specs.declared.answer.Answer.TheVariants as answers
 use Rattle.vl_script.specs.declared.line.Line.TheVariants as lines

@@ -5,31 +5,31 @@ use Rattle.std.specs.FinMap.{find, get, get-entries}
 use Rattle.std.specs.Option.{is_some}
 use Rattle.vl_engine.specs.Past.{beginning}
 use Rattle.vl_engine.specs.Reading.{OnlyNotes, value_under}
-use Rattle.vl_core.specs.LiesOver.{IsInMemory}
-use Rattle.vl_core.specs.Represents.{IsLive}
+use Rattle.vl_engine_laws.specs.LiesOver.{IsInMemory}
+use Rattle.vl_engine_laws.specs.Represents.{IsLive}
 use Rattle.vl_engine.specs.Sees.{Sees, SeesAlone, asked, asked_view}
 use Rattle.vl_engine.specs.declared.txn.Txn.{Txn}
 use Rattle.vl_engine.specs.declared.view.View.{View as EngineView}
-use Rattle.vl_layout.specs.AtAnswer.{Beginning}
-use Rattle.vl_layout.specs.Rulings.Commit.{Transaction as ATxn}
-use Rattle.vl_layout.specs.Store.Commits.{history_in, value_in}
-use Rattle.vl_layout.specs.Store.Lines.{Answer, Invalid, Name}
-use Rattle.vl_layout.specs.Store.Reading.{get_by, get_own}
-use Rattle.vl_layout.specs.Store.Things as store
-use Rattle.vl_layout.specs.Store.Things.{AJob, APass, ATransaction, AView, Step, named, only, thing_in}
-use Rattle.vl_layout.specs.laws.CommitsLaws.{value_in-is}
-use Rattle.vl_layout.specs.Store.Commits.{AreProper}
-use Rattle.vl_layout.specs.declared.layout.Layout.{Layout}
+use Rattle.vl_engine_model.specs.AtAnswer.{Beginning}
+use Rattle.vl_engine_model.specs.Rulings.Commit.{Transaction as ATxn}
+use Rattle.vl_engine_model.specs.Store.Commits.{history_in, value_in}
+use Rattle.vl_engine_model.specs.Store.Lines.{Answer, Invalid, Name}
+use Rattle.vl_engine_model.specs.Store.Reading.{get_by, get_own}
+use Rattle.vl_engine_model.specs.Store.Things as store
+use Rattle.vl_engine_model.specs.Store.Things.{AJob, APass, ATransaction, AView, Step, named, only, thing_in}
+use Rattle.vl_engine_model.specs.laws.CommitsLaws.{value_in-is}
+use Rattle.vl_engine_model.specs.Store.Commits.{AreProper}
+use Rattle.vl_engine_model.specs.declared.layout.Layout.{Layout}
 use Rattle.vl_model.specs.History.{History, value_at, value_left}
 use Rattle.vl_model.specs.Keys.{Stored, is_key_length, key_cmp}
 use Rattle.vl_model.specs.Reads.{KeyRead, Read}
 use Rattle.vl_model.specs.declared.change.Change.{Change}
 use Rattle.vl_txn.specs.Reads.{with_get}
 use Rattle.vl_replay.specs.Standing.{Corresponds, IsTaken, IsTransaction, ReadsNoTable, Stand, open_in, ticket_of}
-use Rattle.vl_layout.specs.Jobs.{Made}
-use Rattle.vl_layout.specs.Relocation.{Candidate, Pass}
-use Rattle.vl_layout.specs.declared.job.Job.{Job}
-use Rattle.vl_sequential.specs.Readers.{IsReader}
+use Rattle.vl_engine_model.specs.Jobs.{Made}
+use Rattle.vl_engine_model.specs.Relocation.{Candidate, Pass}
+use Rattle.vl_engine_model.specs.declared.job.Job.{Job}
+use Rattle.vl_script_model.specs.Readers.{IsReader}
 use Rattle.vl_replay.specs.declared.replayer.open.Open.{Open}
 use Rattle.vl_replay.specs.declared.replayer.open.Thing.{Thing}
 use Rattle.vl_replay.specs.declared.replayer.open.Thing.TheVariants.{Transaction, View}

@@ -2,21 +2,21 @@
 use Rattle.std.proofs.Common.{◌≡◌, ℕ, List, [], ◌∷◌, ◌++◌, sym, subst}
 use Rattle.std.specs.Prelude.{Option, None, Some, Ok, Result}
 use Rattle.vl_disk.specs.DiskState.{DiskState}
-use Rattle.vl_core.specs.declared.kept.Core.{Core}
+use Rattle.vl_engine_laws.specs.declared.kept.Core.{Core}
 use Rattle.vl_engine.specs.declared.view.View.{View as EngineView}
-use Rattle.vl_layout.specs.AtAnswer.{Beginning}
-use Rattle.vl_layout.specs.Rulings.View.{View as LayoutView}
-use Rattle.vl_layout.specs.Store.Lines as store_lines
-use Rattle.vl_layout.specs.Store.Lines.{Name}
-use Rattle.vl_layout.specs.Store.Things as store
-use Rattle.vl_layout.specs.Jobs.{Made}
-use Rattle.vl_layout.specs.Relocation.{Candidate, Pass}
-use Rattle.vl_layout.specs.Store.Things.{AJob, APass, AView, Step, only, thing_of}
-use Rattle.vl_layout.specs.declared.job.Job.{Job}
+use Rattle.vl_engine_model.specs.AtAnswer.{Beginning}
+use Rattle.vl_engine_model.specs.Rulings.View.{View as LayoutView}
+use Rattle.vl_engine_model.specs.Store.Lines as store_lines
+use Rattle.vl_engine_model.specs.Store.Lines.{Name}
+use Rattle.vl_engine_model.specs.Store.Things as store
+use Rattle.vl_engine_model.specs.Jobs.{Made}
+use Rattle.vl_engine_model.specs.Relocation.{Candidate, Pass}
+use Rattle.vl_engine_model.specs.Store.Things.{AJob, APass, AView, Step, only, thing_of}
+use Rattle.vl_engine_model.specs.declared.job.Job.{Job}
 use Rattle.vl_replay.specs.Replaying.{MakesStep, StandsIn, state_by}
-use Rattle.vl_sequential.specs.Sequential.{State, state_after, step_to}
+use Rattle.vl_script_model.specs.Sequential.{State, state_after, step_to}
 use Rattle.vl_replay.specs.Standing.{AreOnce, IsTaken}
-use Rattle.vl_sequential.specs.declared.fails.Halt.{Halt}
+use Rattle.vl_script_model.specs.declared.fails.Halt.{Halt}
 use Rattle.vl_replay.specs.declared.replayer.open.Open.{Open}
 use Rattle.vl_replay.specs.declared.replayer.open.Thing.{Thing}
 use Rattle.vl_replay.specs.declared.replayer.open.Thing.TheVariants.{View}

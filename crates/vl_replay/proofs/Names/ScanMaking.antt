@@ -7,13 +7,13 @@ use Rattle.vl_engine.specs.Reading.{IsRefusedBy, NotesNothing, OnlyNotes, OnlyRe
 use Rattle.vl_engine.specs.Sees.{Sees, SeesAlone}
 use Rattle.vl_engine.specs.declared.fails.ReadFail.{ReadFail}
 use Rattle.vl_engine.specs.declared.fails.ReadFail.TheVariants as unread
-use Rattle.vl_core.specs.declared.kept.Core.{Core}
+use Rattle.vl_engine_laws.specs.declared.kept.Core.{Core}
 use Rattle.vl_engine.specs.declared.txn.Txn.{Txn}
 use Rattle.vl_engine.specs.declared.view.View.{View as EngineView}
-use Rattle.vl_layout.specs.Store.Lines as store_lines
-use Rattle.vl_layout.specs.Store.Lines.{Name}
-use Rattle.vl_layout.specs.Store.Reading.{rows_told, scan_by, scanned_rows}
-use Rattle.vl_layout.specs.Store.Things.{Step, only, thing_of}
+use Rattle.vl_engine_model.specs.Store.Lines as store_lines
+use Rattle.vl_engine_model.specs.Store.Lines.{Name}
+use Rattle.vl_engine_model.specs.Store.Reading.{rows_told, scan_by, scanned_rows}
+use Rattle.vl_engine_model.specs.Store.Things.{Step, only, thing_of}
 use Rattle.vl_model.specs.History.{History, contents_at}
 use Rattle.vl_model.specs.Keys.{Row, Writes, key_cmp}
 use Rattle.vl_model.specs.Limits.{max_key_bytes}
@@ -24,12 +24,12 @@ use Rattle.vl_txn.specs.Reads as noting
 use Rattle.vl_txn.specs.declared.key_fail.KeyFail.{KeyFail}
 use Rattle.vl_txn.specs.declared.key_fail.KeyFail.TheVariants.{EmptyKey, KeyTooLong}
 use Rattle.vl_replay.specs.Replaying.{MakesStep, StandsIn}
-use Rattle.vl_sequential.specs.Sequential.{IsTold, State, history_of, without_lengths}
+use Rattle.vl_script_model.specs.Sequential.{IsTold, State, history_of, without_lengths}
 use Rattle.vl_replay.specs.Standing.{IsTaken, told_by}
 use Rattle.vl_replay.specs.declared.replayer.open.Open.{Open}
 use Rattle.vl_replay.specs.declared.replayer.open.Thing.TheVariants.{Transaction, View}
-use Rattle.vl_sequential.specs.laws.Explained.{rows_are}
-use Rattle.vl_sequential.specs.laws.Laws.{state_after-sound}
+use Rattle.vl_script_model.specs.laws.Explained.{rows_are}
+use Rattle.vl_script_model.specs.laws.Laws.{state_after-sound}
 use Rattle.vl_script.specs.declared.answer.Answer.{Answer}
 use Rattle.vl_script.specs.declared.answer.Answer.TheVariants as answers
 use Rattle.vl_script.specs.declared.line.Line.TheVariants as lines

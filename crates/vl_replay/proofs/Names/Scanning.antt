@@ -4,17 +4,17 @@ use Rattle.std.specs.Prelude.{Option, Some, nat_le}
 use Rattle.std.specs.FinMap.{entries, entries-from_sorted, entries_sorted, from_sorted, same_entries_map}
 use Rattle.vl_engine.specs.Past.{beginning}
 use Rattle.vl_engine.specs.Reading.{OnlyNotes, rows_under}
-use Rattle.vl_core.specs.LiesOver.{IsInMemory}
-use Rattle.vl_core.specs.Represents.{IsLive}
+use Rattle.vl_engine_laws.specs.LiesOver.{IsInMemory}
+use Rattle.vl_engine_laws.specs.Represents.{IsLive}
 use Rattle.vl_engine.specs.Sees.{Sees, asked}
 use Rattle.vl_engine.specs.declared.txn.Txn.{Txn}
-use Rattle.vl_layout.specs.AtAnswer.{Beginning}
-use Rattle.vl_layout.specs.Rulings.Commit.{Transaction as ATxn}
-use Rattle.vl_layout.specs.Store.Commits.{AreProper, history_in}
-use Rattle.vl_layout.specs.Store.Lines.{Invalid, Name, Rows}
-use Rattle.vl_layout.specs.Store.Reading.{noted_scan, rows_told, scan_by, scan_of, scanned_rows}
-use Rattle.vl_layout.specs.Store.Things as store
-use Rattle.vl_layout.specs.Store.Things.{ATransaction, Step, only, thing_in}
+use Rattle.vl_engine_model.specs.AtAnswer.{Beginning}
+use Rattle.vl_engine_model.specs.Rulings.Commit.{Transaction as ATxn}
+use Rattle.vl_engine_model.specs.Store.Commits.{AreProper, history_in}
+use Rattle.vl_engine_model.specs.Store.Lines.{Invalid, Name, Rows}
+use Rattle.vl_engine_model.specs.Store.Reading.{noted_scan, rows_told, scan_by, scan_of, scanned_rows}
+use Rattle.vl_engine_model.specs.Store.Things as store
+use Rattle.vl_engine_model.specs.Store.Things.{ATransaction, Step, only, thing_in}
 use Rattle.vl_model.specs.History.{contents_at}
 use Rattle.vl_model.specs.Keys.{Row, Writes, key_cmp}
 use Rattle.vl_model.specs.Limits.{max_key_bytes}
@@ -24,7 +24,7 @@ use Rattle.vl_txn.specs.Reads as noting
 use Rattle.vl_replay.specs.Standing.{IsTaken, IsTransaction, ReadsNoTable, Stand}
 use Rattle.vl_replay.specs.declared.replayer.open.Open.{Open}
 use Rattle.vl_replay.specs.declared.replayer.open.Thing.TheVariants.{Transaction}
-use Rattle.vl_sequential.specs.laws.Explained.{rows_are}
+use Rattle.vl_script_model.specs.laws.Explained.{rows_are}
 use Rattle.vl_replay.proofs.Names.Lookups.{on_true}
 use Rattle.vl_replay.proofs.Names.Reading.{put_back}
 

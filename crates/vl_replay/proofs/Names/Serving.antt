@@ -2,15 +2,15 @@
 -- and the disk holds the layout, where a store might be opened on it at first.
 use Rattle.std.specs.Prelude.{◌≡◌, ℕ, Bool, IsTrue, List, Option, None}
 use Rattle.vl_disk.specs.DiskState.{DiskState}
-use Rattle.vl_core.specs.Represents as engine
-use Rattle.vl_core.specs.MayStep.{Fits}
-use Rattle.vl_core.specs.declared.kept.Core.{Core}
-use Rattle.vl_layout.specs.Decides.{Decides, Effects, Otherwise, Outcome}
-use Rattle.vl_layout.specs.Ruling.{Ruling}
-use Rattle.vl_layout.specs.declared.layout.Layout.{Layout}
+use Rattle.vl_engine_laws.specs.Represents as engine
+use Rattle.vl_engine_laws.specs.MayStep.{Fits}
+use Rattle.vl_engine_laws.specs.declared.kept.Core.{Core}
+use Rattle.vl_engine_model.specs.Decides.{Decides, Effects, Otherwise, Outcome}
+use Rattle.vl_engine_model.specs.Ruling.{Ruling}
+use Rattle.vl_engine_model.specs.declared.layout.Layout.{Layout}
 use Rattle.vl_model.specs.History.{History}
 use Rattle.vl_replay.specs.Replaying.{StandsIn}
-use Rattle.vl_sequential.specs.Sequential.{State, history_of}
+use Rattle.vl_script_model.specs.Sequential.{State, history_of}
 use Rattle.vl_replay.specs.declared.replayer.open.Open.{Open}
 
 pub record Serves {H : Type 0} (bytes : H → Option (List ℕ)) (seen : Option DiskState) (openable : Bool) (core : Core H)

@@ -9,39 +9,39 @@ use Rattle.vl_back.specs.declared.back.Back.{Back}
 use Rattle.vl_back.specs.declared.decision.Decision.TheVariants as decisions
 use Rattle.vl_disk.specs.DiskState.{DiskState}
 use Rattle.vl_disk.specs.Faults.{HasCause}
-use Rattle.vl_core.specs.Represents as engine
-use Rattle.vl_core.specs.Represents.{IsLive}
+use Rattle.vl_engine_laws.specs.Represents as engine
+use Rattle.vl_engine_laws.specs.Represents.{IsLive}
 use Rattle.vl_engine.specs.Stepping.{StepFailed, step_outcome}
 use Rattle.vl_engine.specs.declared.fails.StepFail.{StepFail}
 use Rattle.vl_engine.specs.declared.fails.StepFail.TheVariants as undone
-use Rattle.vl_core.specs.declared.kept.Core.{Core}
-use Rattle.vl_layout.specs.Decides.{Decides, Effects, Otherwise}
-use Rattle.vl_layout.specs.Levels.{in_front}
-use Rattle.vl_layout.specs.Ruling as rulings
-use Rattle.vl_layout.specs.Ruling.{Ruling, StepAnswer, has_no_number, has_no_version, leaving}
-use Rattle.vl_layout.specs.Rulings.Flush.{flush_of, flush_ruling, flush_unless, flushed}
-use Rattle.vl_layout.specs.Rulings.Rotate.{rotate_of, rotate_ruling, rotate_unless, rotated}
-use Rattle.vl_layout.specs.Sources.{oldest, tables}
-use Rattle.vl_layout.specs.Store.Dispatch.{step_by, step_told}
-use Rattle.vl_layout.specs.declared.file_name.FileName.{FileName}
-use Rattle.vl_layout.specs.declared.layout.Layout.{Layout}
-use Rattle.vl_layout.specs.declared.live.Live.{Live}
-use Rattle.vl_layout.specs.declared.segment.Segment.{Segment}
-use Rattle.vl_layout.specs.declared.table.Table.{Table}
+use Rattle.vl_engine_laws.specs.declared.kept.Core.{Core}
+use Rattle.vl_engine_model.specs.Decides.{Decides, Effects, Otherwise}
+use Rattle.vl_engine_model.specs.Levels.{in_front}
+use Rattle.vl_engine_model.specs.Ruling as rulings
+use Rattle.vl_engine_model.specs.Ruling.{Ruling, StepAnswer, has_no_number, has_no_version, leaving}
+use Rattle.vl_engine_model.specs.Rulings.Flush.{flush_of, flush_ruling, flush_unless, flushed}
+use Rattle.vl_engine_model.specs.Rulings.Rotate.{rotate_of, rotate_ruling, rotate_unless, rotated}
+use Rattle.vl_engine_model.specs.Sources.{oldest, tables}
+use Rattle.vl_engine_model.specs.Store.Dispatch.{step_by, step_told}
+use Rattle.vl_engine_model.specs.declared.file_name.FileName.{FileName}
+use Rattle.vl_engine_model.specs.declared.layout.Layout.{Layout}
+use Rattle.vl_engine_model.specs.declared.live.Live.{Live}
+use Rattle.vl_engine_model.specs.declared.segment.Segment.{Segment}
+use Rattle.vl_engine_model.specs.declared.table.Table.{Table}
 use Rattle.vl_manifest.specs.declared.waiting.Waiting.{Waiting}
 use Rattle.vl_model.specs.History.{History}
 use Rattle.vl_model.specs.Limits.{max_file_number, max_version_number}
 use Rattle.vl_model.specs.declared.counter.Counter.TheVariants as counter
 use Rattle.vl_model.specs.declared.log_frame.LogFrame.{LogFrame}
-use Rattle.vl_sequential.specs.Halts.{HaltsByDisk, HaltsByRead}
-use Rattle.vl_layout.specs.declared.file_name.Retired.{Retired}
+use Rattle.vl_script_model.specs.Halts.{HaltsByDisk, HaltsByRead}
+use Rattle.vl_engine_model.specs.declared.file_name.Retired.{Retired}
 use Rattle.vl_replay.specs.Replaying.{MakesStep, StandsIn, state_by}
-use Rattle.vl_sequential.specs.Sequential.{State, files_behind, history_of, without_lengths}
+use Rattle.vl_script_model.specs.Sequential.{State, files_behind, history_of, without_lengths}
 use Rattle.vl_replay.specs.Standing.{ReadsNoTable, Stand, is_held_table, pins_at, told_step}
-use Rattle.vl_sequential.specs.declared.fails.Halt.{Halt}
+use Rattle.vl_script_model.specs.declared.fails.Halt.{Halt}
 use Rattle.vl_replay.specs.declared.replayer.open.Open.{Open}
-use Rattle.vl_sequential.specs.laws.Laws.{IsSound}
-use Rattle.vl_sequential.specs.laws.Betweens.{extends_itself}
+use Rattle.vl_script_model.specs.laws.Laws.{IsSound}
+use Rattle.vl_script_model.specs.laws.Betweens.{extends_itself}
 use Rattle.vl_replay.proofs.Names.Ending.{still_stands}
 use Rattle.vl_replay.proofs.Names.Serving.{Serves}
 use Rattle.vl_script.specs.declared.answer.Answer.{Answer}

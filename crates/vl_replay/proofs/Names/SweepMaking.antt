@@ -4,29 +4,29 @@ use Rattle.std.specs.Prelude.{Option, None, Some, Ok, Err, Result, OnOk}
 use Rattle.vl_disk.specs.DiskState.{DiskState}
 use Rattle.vl_disk.specs.Faults.{HasCause}
 use Rattle.vl_engine.specs.Sweeping.{SweepFailed, sweep_outcome}
-use Rattle.vl_core.specs.Represents as engine
-use Rattle.vl_core.specs.Represents.{IsLive}
+use Rattle.vl_engine_laws.specs.Represents as engine
+use Rattle.vl_engine_laws.specs.Represents.{IsLive}
 use Rattle.vl_engine.specs.declared.fails.SweepFail.{SweepFail}
 use Rattle.vl_engine.specs.declared.fails.SweepFail.TheVariants as unswept
-use Rattle.vl_core.specs.declared.kept.Core.{Core}
-use Rattle.vl_layout.specs.Decides.{Decides, Effects, Otherwise}
-use Rattle.vl_layout.specs.Ruling.{Ruling}
-use Rattle.vl_layout.specs.Rulings.Sweep as rulings
-use Rattle.vl_layout.specs.Rulings.Sweep.{SweepAnswer, sweep_ruling, sweep_unless}
-use Rattle.vl_layout.specs.Stock.{AreOnce, files_of}
-use Rattle.vl_layout.specs.Store.Dispatch.{sweep_by, sweep_told}
-use Rattle.vl_layout.specs.declared.file_name.FileName.{FileName}
-use Rattle.vl_layout.specs.declared.layout.Layout.{Layout}
-use Rattle.vl_layout.specs.declared.live.Live.{Live}
+use Rattle.vl_engine_laws.specs.declared.kept.Core.{Core}
+use Rattle.vl_engine_model.specs.Decides.{Decides, Effects, Otherwise}
+use Rattle.vl_engine_model.specs.Ruling.{Ruling}
+use Rattle.vl_engine_model.specs.Rulings.Sweep as rulings
+use Rattle.vl_engine_model.specs.Rulings.Sweep.{SweepAnswer, sweep_ruling, sweep_unless}
+use Rattle.vl_engine_model.specs.Stock.{AreOnce, files_of}
+use Rattle.vl_engine_model.specs.Store.Dispatch.{sweep_by, sweep_told}
+use Rattle.vl_engine_model.specs.declared.file_name.FileName.{FileName}
+use Rattle.vl_engine_model.specs.declared.layout.Layout.{Layout}
+use Rattle.vl_engine_model.specs.declared.live.Live.{Live}
 use Rattle.vl_model.specs.History.{History}
-use Rattle.vl_sequential.specs.Halts.{HaltsByDisk, HaltsByRead}
+use Rattle.vl_script_model.specs.Halts.{HaltsByDisk, HaltsByRead}
 use Rattle.vl_replay.specs.Replaying.{MakesStep, StandsIn, state_by}
-use Rattle.vl_sequential.specs.Sequential.{State, history_of, without_lengths}
+use Rattle.vl_script_model.specs.Sequential.{State, history_of, without_lengths}
 use Rattle.vl_replay.specs.Standing.{ReadsNoTable, Stand, told_sweep}
-use Rattle.vl_sequential.specs.declared.fails.Halt.{Halt}
+use Rattle.vl_script_model.specs.declared.fails.Halt.{Halt}
 use Rattle.vl_replay.specs.declared.replayer.open.Open.{Open}
-use Rattle.vl_sequential.specs.laws.Laws.{IsSound}
-use Rattle.vl_sequential.specs.laws.Betweens.{extends_itself}
+use Rattle.vl_script_model.specs.laws.Laws.{IsSound}
+use Rattle.vl_script_model.specs.laws.Betweens.{extends_itself}
 use Rattle.vl_replay.proofs.Names.Ending.{still_stands}
 use Rattle.vl_replay.proofs.Names.Serving.{Serves}
 use Rattle.vl_replay.proofs.Names.Untabled.{reads_swept}

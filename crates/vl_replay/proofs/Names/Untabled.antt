@@ -6,21 +6,21 @@ use Rattle.std.specs.Prelude.{None, Some, nat_lt}
 use Rattle.std.specs.FinMap.{find}
 use Rattle.std.specs.List.{AllByRecursion, filter}
 use Rattle.std.specs.Ordering.{eq_by_cmp, nat_cmp}
-use Rattle.vl_layout.specs.Rising.{put_by}
-use Rattle.vl_layout.specs.Ruling.{ended, pin_of, retired_at}
-use Rattle.vl_layout.specs.Rulings.Begin.{begun}
+use Rattle.vl_engine_model.specs.Rising.{put_by}
+use Rattle.vl_engine_model.specs.Ruling.{ended, pin_of, retired_at}
+use Rattle.vl_engine_model.specs.Rulings.Begin.{begun}
 use Rattle.vl_engine.proofs.Sweeps.Freed.{left_over}
-use Rattle.vl_layout.specs.Rulings.Sweep.{is_held, job_pin, pass_pin, pins, swept, without_files}
-use Rattle.vl_layout.specs.Sources.{tables}
-use Rattle.vl_layout.specs.Stock.{AreOnce, IsPinned, files_of}
-use Rattle.vl_layout.specs.Tickets.{tickets_of}
-use Rattle.vl_layout.specs.declared.file_name.FileName.{FileName}
-use Rattle.vl_layout.specs.declared.file_name.Retired.{Retired}
-use Rattle.vl_layout.specs.declared.layout.Layout.{Layout}
-use Rattle.vl_layout.specs.declared.live.Live.{Live}
-use Rattle.vl_layout.specs.declared.live.Pin.{Pin}
-use Rattle.vl_layout.specs.declared.table.Table.{Table}
-use Rattle.vl_sequential.specs.Readers.{IsWithoutTables, is_table}
+use Rattle.vl_engine_model.specs.Rulings.Sweep.{is_held, job_pin, pass_pin, pins, swept, without_files}
+use Rattle.vl_engine_model.specs.Sources.{tables}
+use Rattle.vl_engine_model.specs.Stock.{AreOnce, IsPinned, files_of}
+use Rattle.vl_engine_model.specs.Tickets.{tickets_of}
+use Rattle.vl_engine_model.specs.declared.file_name.FileName.{FileName}
+use Rattle.vl_engine_model.specs.declared.file_name.Retired.{Retired}
+use Rattle.vl_engine_model.specs.declared.layout.Layout.{Layout}
+use Rattle.vl_engine_model.specs.declared.live.Live.{Live}
+use Rattle.vl_engine_model.specs.declared.live.Pin.{Pin}
+use Rattle.vl_engine_model.specs.declared.table.Table.{Table}
+use Rattle.vl_script_model.specs.Readers.{IsWithoutTables, is_table}
 use Rattle.vl_replay.specs.Standing.{ReadsNoTable, is_held_table, pins_at}
 
 -- ---- lists

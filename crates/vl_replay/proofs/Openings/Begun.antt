@@ -4,33 +4,33 @@ use Rattle.std.specs.Prelude.{IsTrue, None, Option, Some, length}
 use Rattle.vl_disk.specs.DiskState.{DiskState}
 use Rattle.vl_disk.specs.Faults.{after_calls}
 use Rattle.vl_disk.specs.declared.watched.Watched.{Ghosts}
-use Rattle.vl_core.specs.Found.{IsBackAtStart, recovered}
-use Rattle.vl_core.specs.Represents as engine
-use Rattle.vl_core.specs.MayStep.{Fits}
-use Rattle.vl_core.specs.declared.kept.Core.{Core}
+use Rattle.vl_engine_laws.specs.Found.{IsBackAtStart, recovered}
+use Rattle.vl_engine_laws.specs.Represents as engine
+use Rattle.vl_engine_laws.specs.MayStep.{Fits}
+use Rattle.vl_engine_laws.specs.declared.kept.Core.{Core}
 use Rattle.vl_engine.specs.Collecting.{Collects}
 use Rattle.vl_engine.specs.declared.open.Collecting.{Collecting}
-use Rattle.vl_layout.specs.Relocation.{Candidate, Pass}
-use Rattle.vl_layout.specs.Start.{layout_at_start}
-use Rattle.vl_layout.specs.Store.Lines.{Name}
-use Rattle.vl_layout.specs.Store.Things as store
-use Rattle.vl_layout.specs.Store.Things.{APass, thing_in}
-use Rattle.vl_layout.specs.declared.layout.Layout.{Layout}
+use Rattle.vl_engine_model.specs.Relocation.{Candidate, Pass}
+use Rattle.vl_engine_model.specs.Start.{layout_at_start}
+use Rattle.vl_engine_model.specs.Store.Lines.{Name}
+use Rattle.vl_engine_model.specs.Store.Things as store
+use Rattle.vl_engine_model.specs.Store.Things.{APass, thing_in}
+use Rattle.vl_engine_model.specs.declared.layout.Layout.{Layout}
 use Rattle.vl_model.specs.History.{History}
 use Rattle.vl_model.specs.Limits.{max_room}
 use Rattle.vl_recover.specs.crash.Meanwhile.{IsRepaired}
 use Rattle.vl_recover.specs.opening.Answers.{calls_to_open}
-use Rattle.vl_sequential.specs.Durable.{HoldsState}
+use Rattle.vl_script_model.specs.Durable.{HoldsState}
 use Rattle.vl_replay.specs.Passing.{PassesIn}
 use Rattle.vl_replay.specs.Replaying.{StandsIn}
-use Rattle.vl_sequential.specs.Sequential.{State, history_of}
+use Rattle.vl_script_model.specs.Sequential.{State, history_of}
 use Rattle.vl_replay.specs.Standing.{Stand}
-use Rattle.vl_sequential.specs.Start.{StartsIn, start_proper}
-use Rattle.vl_sequential.specs.Stored.{IsStored}
+use Rattle.vl_script_model.specs.Start.{StartsIn, start_proper}
+use Rattle.vl_script_model.specs.Stored.{IsStored}
 use Rattle.vl_replay.specs.declared.replayer.open.Open.{Open}
-use Rattle.vl_sequential.specs.laws.Explained.{none_sound}
-use Rattle.vl_sequential.specs.laws.HeldDisk.{stored_by}
-use Rattle.vl_sequential.specs.laws.Recovering.{opened_numbered}
+use Rattle.vl_script_model.specs.laws.Explained.{none_sound}
+use Rattle.vl_script_model.specs.laws.HeldDisk.{stored_by}
+use Rattle.vl_script_model.specs.laws.Recovering.{opened_numbered}
 
 -- where no name stands for anything none does here
 none_stand : {H R : Type 0} (bytes : H → Option (List ℕ)) (h : History) (l : Layout) → Stand {R = R} bytes [] [] h l

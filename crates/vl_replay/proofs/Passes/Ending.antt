@@ -2,11 +2,11 @@
 use Rattle.std.proofs.Common.{◌≡◌, ⊎_elim, ℕ, ◌≤◌, List, ◌++◌, refl, ap, sym, ◌∙◌, subst}
 use Rattle.std.specs.Prelude.{Option, None, Some, Ok, IsTrue}
 use Rattle.vl_collect.specs.declared.pass.Pass.{Pass as ThePass}
-use Rattle.vl_core.specs.MayStep.{Fits}
-use Rattle.vl_core.specs.Represents as engine
-use Rattle.vl_core.specs.Shown.{Shown}
-use Rattle.vl_core.specs.declared.kept.Core.{Core}
-use Rattle.vl_core.specs.laws.Lasting.{lasts_same}
+use Rattle.vl_engine_laws.specs.MayStep.{Fits}
+use Rattle.vl_engine_laws.specs.Represents as engine
+use Rattle.vl_engine_laws.specs.Shown.{Shown}
+use Rattle.vl_engine_laws.specs.declared.kept.Core.{Core}
+use Rattle.vl_engine_laws.specs.laws.Lasting.{lasts_same}
 use Rattle.vl_disk.specs.DiskState.{DiskState}
 use Rattle.vl_disk.specs.declared.watched.Watched.{Ghosts}
 use Rattle.vl_disk.specs.declared.writer.Writer.{Ghosts as Writers}
@@ -14,35 +14,35 @@ use Rattle.vl_engine.specs.Collecting.{Collects}
 use Rattle.vl_engine.specs.Merging.{StandsOpen}
 use Rattle.vl_engine.specs.declared.open.Collecting.{Collecting}
 use Rattle.vl_engine.specs.declared.open.OpenMerge.{OpenMerge}
-use Rattle.vl_layout.specs.Relocation.{Candidate, Pass}
-use Rattle.vl_layout.specs.Rulings.EndPass.{without_pass}
-use Rattle.vl_layout.specs.Sources.{tables}
-use Rattle.vl_layout.specs.Store.Dispatch.{drop_by}
-use Rattle.vl_layout.specs.Store.Lines as store_lines
-use Rattle.vl_layout.specs.Store.Lines.{Name}
-use Rattle.vl_layout.specs.Store.Things as things
-use Rattle.vl_layout.specs.Store.Things.{AJob, APass, ATransaction, AView, Step, Thing, thing_in, thing_of, without_name, without_thing}
-use Rattle.vl_layout.specs.declared.job.OpenPass.{OpenPass}
-use Rattle.vl_layout.specs.declared.layout.Layout.{Layout}
-use Rattle.vl_layout.specs.declared.segment.Segment.{Segment}
-use Rattle.vl_layout.specs.declared.table.Table.{Table}
+use Rattle.vl_engine_model.specs.Relocation.{Candidate, Pass}
+use Rattle.vl_engine_model.specs.Rulings.EndPass.{without_pass}
+use Rattle.vl_engine_model.specs.Sources.{tables}
+use Rattle.vl_engine_model.specs.Store.Dispatch.{drop_by}
+use Rattle.vl_engine_model.specs.Store.Lines as store_lines
+use Rattle.vl_engine_model.specs.Store.Lines.{Name}
+use Rattle.vl_engine_model.specs.Store.Things as things
+use Rattle.vl_engine_model.specs.Store.Things.{AJob, APass, ATransaction, AView, Step, Thing, thing_in, thing_of, without_name, without_thing}
+use Rattle.vl_engine_model.specs.declared.job.OpenPass.{OpenPass}
+use Rattle.vl_engine_model.specs.declared.layout.Layout.{Layout}
+use Rattle.vl_engine_model.specs.declared.segment.Segment.{Segment}
+use Rattle.vl_engine_model.specs.declared.table.Table.{Table}
 use Rattle.vl_model.specs.History.{History}
 use Rattle.vl_version.specs.declared.base.Base.{Base}
-use Rattle.vl_sequential.specs.Durable.{CarriesOut}
+use Rattle.vl_script_model.specs.Durable.{CarriesOut}
 use Rattle.vl_replay.specs.Passing.{IsPassing, Passes, TakesPass}
 use Rattle.vl_replay.specs.Replaying.{MakesStep, Merges, StandsIn, state_by}
-use Rattle.vl_sequential.specs.Sequential.{State, history_of}
+use Rattle.vl_script_model.specs.Sequential.{State, history_of}
 use Rattle.vl_replay.specs.Standing.{Corresponds, Stand, open_in}
-use Rattle.vl_sequential.specs.Stored.{IsStopped, IsStored}
+use Rattle.vl_script_model.specs.Stored.{IsStopped, IsStored}
 use Rattle.vl_replay.specs.declared.replayer.open.Open.{Open}
 use Rattle.vl_replay.specs.declared.replayer.open.Thing.TheVariants.{Transaction, View}
 use Rattle.vl_replay.specs.declared.replayer.open.Thing.{Thing as Opened}
 use Rattle.vl_replay.specs.declared.replayer.passing.Passing.{Passing}
 use Rattle.vl_replay.specs.declared.replayer.planned.Planned.{Planned}
-use Rattle.vl_sequential.specs.laws.Laws.{IsSound, state_after-sound}
+use Rattle.vl_script_model.specs.laws.Laws.{IsSound, state_after-sound}
 use Rattle.vl_script.specs.declared.answer.Answer.TheVariants as answers
 use Rattle.vl_script.specs.declared.line.Line.TheVariants as lines
-use Rattle.vl_sequential.specs.laws.DiskSteps.{IsWatched}
+use Rattle.vl_script_model.specs.laws.DiskSteps.{IsWatched}
 use Rattle.vl_replay.proofs.Merges.Keeping.{KeepsMerges, SamePasses}
 use Rattle.vl_replay.proofs.Merges.Planning.{IsBeside, stays_so}
 use Rattle.vl_replay.proofs.Merges.Waiting.{merges_behind}

@@ -1,11 +1,11 @@
 -- Merges beside a name that stands for a pass.
 use Rattle.std.proofs.Common.{◌≡◌, ⊎_elim, List, sym, ◌∙◌, subst}
 use Rattle.std.specs.Prelude.{Option, None, Some}
-use Rattle.vl_layout.specs.Jobs.{Made}
-use Rattle.vl_layout.specs.Relocation.{Candidate, Pass}
-use Rattle.vl_layout.specs.Store.Lines.{Name}
-use Rattle.vl_layout.specs.Store.Things.{AJob, APass, Thing, named, thing_in, without_name}
-use Rattle.vl_layout.specs.declared.job.Job.{Job}
+use Rattle.vl_engine_model.specs.Jobs.{Made}
+use Rattle.vl_engine_model.specs.Relocation.{Candidate, Pass}
+use Rattle.vl_engine_model.specs.Store.Lines.{Name}
+use Rattle.vl_engine_model.specs.Store.Things.{AJob, APass, Thing, named, thing_in, without_name}
+use Rattle.vl_engine_model.specs.declared.job.Job.{Job}
 use Rattle.vl_replay.proofs.Merges.Keeping.{SameJobs, SamePasses}
 use Rattle.vl_replay.proofs.Names.Lookups.{thing_beside, thing_gone, thing_left, thing_put}
 use Rattle.vl_replay.proofs.Names.Standings.{same_or_not}

@@ -3,39 +3,39 @@ use Rattle.std.proofs.Common.{◌≡◌, ⊎_elim, ℕ, ◌==◌, ◌||◌, Bool
 use Rattle.std.specs.Prelude.{Option, None, Some, Ok, Err, Result, nat_lt}
 use Rattle.std.specs.Option.{option_map}
 use Rattle.vl_collect.specs.declared.pass.Pass.{Pass as ThePass}
-use Rattle.vl_core.specs.Lasts.{Lasts}
-use Rattle.vl_core.specs.Represents as engine
-use Rattle.vl_core.specs.declared.kept.Core.{Core}
+use Rattle.vl_engine_laws.specs.Lasts.{Lasts}
+use Rattle.vl_engine_laws.specs.Represents as engine
+use Rattle.vl_engine_laws.specs.declared.kept.Core.{Core}
 use Rattle.vl_disk.specs.DiskState.{DiskState}
 use Rattle.vl_engine.specs.Collecting.{Collects, FitsLooks, IsPicked, pick_outcome}
 use Rattle.vl_engine.specs.declared.fails.PickFail.{PickFail}
 use Rattle.vl_engine.specs.declared.open.Collecting.{Collecting}
-use Rattle.vl_layout.specs.Decides.{Answered}
-use Rattle.vl_layout.specs.Garbage.{best}
-use Rattle.vl_layout.specs.Relocation.{Candidate, Pass}
-use Rattle.vl_layout.specs.Ruling.{Ruling, leaving}
-use Rattle.vl_layout.specs.Rulings.Pick as pick
-use Rattle.vl_layout.specs.Rulings.Pick.{PickAnswer, pick_best, pick_ruling, pick_unless, with_pass}
-use Rattle.vl_layout.specs.Store.Dispatch.{pick_as, picked_by}
-use Rattle.vl_layout.specs.Store.Lines as store_lines
-use Rattle.vl_layout.specs.Store.Lines.{Name}
-use Rattle.vl_layout.specs.Store.Things.{APass, Step, Thing, only, thing_in, thing_of, with_thing}
-use Rattle.vl_layout.specs.declared.job.OpenPass.{OpenPass}
-use Rattle.vl_layout.specs.declared.layout.Layout.{Layout}
-use Rattle.vl_layout.specs.declared.segment.SegmentStat.{SegmentStat}
+use Rattle.vl_engine_model.specs.Decides.{Answered}
+use Rattle.vl_engine_model.specs.Garbage.{best}
+use Rattle.vl_engine_model.specs.Relocation.{Candidate, Pass}
+use Rattle.vl_engine_model.specs.Ruling.{Ruling, leaving}
+use Rattle.vl_engine_model.specs.Rulings.Pick as pick
+use Rattle.vl_engine_model.specs.Rulings.Pick.{PickAnswer, pick_best, pick_ruling, pick_unless, with_pass}
+use Rattle.vl_engine_model.specs.Store.Dispatch.{pick_as, picked_by}
+use Rattle.vl_engine_model.specs.Store.Lines as store_lines
+use Rattle.vl_engine_model.specs.Store.Lines.{Name}
+use Rattle.vl_engine_model.specs.Store.Things.{APass, Step, Thing, only, thing_in, thing_of, with_thing}
+use Rattle.vl_engine_model.specs.declared.job.OpenPass.{OpenPass}
+use Rattle.vl_engine_model.specs.declared.layout.Layout.{Layout}
+use Rattle.vl_engine_model.specs.declared.segment.SegmentStat.{SegmentStat}
 use Rattle.vl_model.specs.History.{History}
 use Rattle.vl_version.specs.declared.base.Base.{Base}
 use Rattle.vl_replay.specs.Passing.{IsOpenPass, Passes}
 use Rattle.vl_replay.specs.Replaying.{MakesStep, StandsIn, state_by}
-use Rattle.vl_sequential.specs.Sequential.{IsTold, State, history_of}
+use Rattle.vl_script_model.specs.Sequential.{IsTold, State, history_of}
 use Rattle.vl_replay.specs.Standing.{open_in}
 use Rattle.vl_replay.specs.declared.replayer.open.Open.{Open}
 use Rattle.vl_replay.specs.declared.replayer.passing.Passing.{Passing}
-use Rattle.vl_sequential.specs.laws.Laws.{IsSound, state_after-sound}
+use Rattle.vl_script_model.specs.laws.Laws.{IsSound, state_after-sound}
 use Rattle.vl_script.specs.declared.answer.Answer.{Answer}
 use Rattle.vl_script.specs.declared.answer.Answer.TheVariants as answers
 use Rattle.vl_script.specs.declared.line.Line.TheVariants as lines
-use Rattle.vl_sequential.specs.laws.Growing.{Keeps, stats_keeps}
+use Rattle.vl_script_model.specs.laws.Growing.{Keeps, stats_keeps}
 use Rattle.vl_replay.proofs.Merges.Keeping.{KeepsMerges, same_jobs}
 use Rattle.vl_replay.proofs.Merges.Planning.{IsBeside}
 use Rattle.vl_replay.proofs.Names.BeginMaking.{kept_makes, stands_as, unread_of}

@@ -1,8 +1,8 @@
 -- What there is of each log, as it is told.
 use Rattle.std.proofs.Common.{◌≡◌, List, [], ◌∷◌, refl, ap}
 use Rattle.std.specs.Prelude.{map}
-use Rattle.vl_layout.specs.declared.segment.SegmentStat.{SegmentStat}
-use Rattle.vl_sequential.specs.Sequential.{stat_told, told_segment}
+use Rattle.vl_engine_model.specs.declared.segment.SegmentStat.{SegmentStat}
+use Rattle.vl_script_model.specs.Sequential.{stat_told, told_segment}
 
 pub told_back : (stats : List SegmentStat) → map stat_told (map told_segment stats) ≡ stats
 told_back [] = refl

@@ -4,31 +4,29 @@ use Rattle.std.specs.List.{AllByRecursion, slice_get}
 use Rattle.std.proofs.Common.{subst, ⊎_elim}
 use Rattle.std.proofs.lemmas.List.Elements.{All-contains, All-from_recursion, Contains-get_or}
 use Rattle.std.proofs.lemmas.Option.{get_or_from_slice_get, slice_get_within}
-use Rattle.vl_block.specs.Bytes.{table_bytes}
+use Rattle.vl_table.specs.body.Bytes.{table_bytes}
 use Rattle.vl_collect.specs.Faults as found
-use Rattle.vl_collect.specs.Faults.{Counts, FailsPassing, IsOfLog, IsOfLooks, IsTheirs, LacksMemory, MayWhere, of_log, of_sources}
+use Rattle.vl_collect.specs.Faults.{Counts, FailsPassing, IsOfLog, IsOfLooks, IsTheirs, LacksMemory, MayWhere}
 use Rattle.vl_collect.specs.Passing.{TornBehind}
-use Rattle.vl_collect.specs.declared.fault.PassFault.TheVariants as faults
-use Rattle.vl_collect.specs.declared.fault.PassFault.{PassFault}
+use Rattle.vl_disk.specs.declared.read_fault.ReadFault.TheVariants as faults
+use Rattle.vl_disk.specs.declared.read_fault.ReadFault.{ReadFault}
 use Rattle.vl_disk.specs.declared.name.Name.{Name as FileName}
-use Rattle.vl_layout.specs.Store.Lines.{Name}
-use Rattle.vl_layout.specs.Store.Things.{Thing}
-use Rattle.vl_layout.specs.declared.layout.Layout.{Layout}
+use Rattle.vl_engine_model.specs.Store.Lines.{Name}
+use Rattle.vl_engine_model.specs.Store.Things.{Thing}
+use Rattle.vl_engine_model.specs.declared.layout.Layout.{Layout}
 use Rattle.vl_model.specs.declared.entry.Entry.{Entry}
-use Rattle.vl_seglog.specs.declared.fault.LogFault.TheVariants as log
-use Rattle.vl_seglog.specs.declared.fault.LogFault.{LogFault}
+use Rattle.vl_disk.specs.declared.read_fault.ReadFault.TheVariants as log
 use Rattle.vl_table.specs.CursorParts.{MayFailOn}
 use Rattle.vl_table.specs.OfTables.{AreOf}
 use Rattle.vl_table.specs.Tables.{IsOf, number_of, shape_of}
 use Rattle.vl_table.specs.declared.block_reader.BlockReader.{BlockReader}
-use Rattle.vl_table.specs.declared.fault.TableFault.TheVariants as table
-use Rattle.vl_table.specs.declared.fault.TableFault.{TableFault}
+use Rattle.vl_disk.specs.declared.read_fault.ReadFault.TheVariants as table
 use Rattle.vl_table.specs.declared.table.Table.{Table}
 use Rattle.vl_table.specs.laws.TrueBlocks.{no_bad_block}
 use Rattle.vl_version.specs.Bases.{Fits}
 use Rattle.vl_version.specs.Sources.{tables_in}
 use Rattle.vl_version.specs.declared.base.Base.{Base}
-use Rattle.vl_sequential.specs.Halts.{HaltsByDamage}
+use Rattle.vl_script_model.specs.Halts.{HaltsByDamage}
 use Rattle.vl_replay.specs.Passing.{IsPassing, halt_at}
 use Rattle.vl_replay.specs.declared.replayer.passing.Passing.{Passing}
 use Rattle.vl_script.specs.declared.answer.Answer.{Answer}
@@ -46,8 +44,8 @@ module _ {H : Type 0} (bytes : H → Option (List ℕ)) (ts : List (Table H)) wh
   each_is (es ∷ tabled) (t ∷ held) are = ((es, are.0), each_is tabled held are.1)
 
   -- Of true tables none is damaged.
-  sound_so : (tabled : List (List Entry)) → AreOf bytes ts tabled → (name : FileName) (place : ℕ) (told : TableFault)
-      → faults.Damaged name place ≡ of_sources told → MayFailOn bytes ts told → ⊥
+  sound_so : (tabled : List (List Entry)) → AreOf bytes ts tabled → (name : FileName) (place : ℕ) (told : ReadFault)
+      → faults.Damaged name place ≡ told → MayFailOn bytes ts told → ⊥
   sound_so tabled are name place table.NoMemory is may = absurd cc
   sound_so tabled are name place (table.Disk n) is may = absurd cc
   sound_so tabled are name place (table.Damaged n at) is (i, t, there, named, bad) =
@@ -56,16 +54,16 @@ module _ {H : Type 0} (bytes : H → Option (List ℕ)) (ts : List (Table H)) wh
       no_bad_block bytes t es at of (bad (table_bytes (shape_of t).format (number_of t) es) of.told)
 
 -- A log's damage is where it is said to be.
-torn_so : (bad : ℕ → Type 0) → ((place : ℕ) → bad place → ⊥) → (name : FileName) (place : ℕ) (told : LogFault)
-    → faults.Damaged name place ≡ of_log told → found.IsThere bad told → ⊥
+torn_so : (bad : ℕ → Type 0) → ((place : ℕ) → bad place → ⊥) → (name : FileName) (place : ℕ) (told : ReadFault)
+    → faults.Damaged name place ≡ told → found.IsThere bad told → ⊥
 torn_so bad none name place log.NoMemory is there = absurd cc
 torn_so bad none name place (log.Disk n) is there = absurd cc
 torn_so bad none name place (log.Damaged n at) is there = none at there
 
 module _ {H R : Type 0} (bytes : H → Option (List ℕ)) (passing : Passing (Base H R) H) (ts : List (Name × Thing)) (l : Layout)
     (going : IsPassing bytes passing ts l) (looks : BlockReader R) (fits : Fits bytes passing.pass.base.version looks)
-    (is_read : TableFault → Bool) (counts : Counts) where
-  abbrev may : TableFault → Type 0
+    (is_read : ReadFault → Bool) (counts : Counts) where
+  abbrev may : ReadFault → Type 0
   may = MayWhere (Fits bytes passing.pass.base.version looks) (MayFailOn bytes (tables_in passing.pass.base.version))
 
   abbrev bad : ℕ → Type 0
@@ -90,7 +88,7 @@ module _ {H R : Type 0} (bytes : H → Option (List ℕ)) (passing : Passing (Ba
       fails
 
   -- So no line on the pass halts by damage.
-  pub undamaged : (fault : PassFault) → FailsPassing is_read may passing.pass.log.number bad counts fault
+  pub undamaged : (fault : ReadFault) → FailsPassing is_read may passing.pass.log.number bad counts fault
       → HaltsByDamage {T = Answer} (Err (halt_at fault)) → ⊥
   undamaged faults.NoMemory fails halts = halts
   undamaged (faults.Disk name) fails halts = halts

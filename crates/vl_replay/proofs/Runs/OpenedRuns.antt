@@ -10,26 +10,26 @@ use Rattle.vl_recover.specs.declared.fails.OpenError.{OpenError}
 use Rattle.vl_recover.specs.declared.fails.OpenError.TheVariants as why
 use Rattle.vl_recover.specs.crash.Starts.{MayOpen}
 use Rattle.vl_script.specs.Script.{lines_of}
-use Rattle.vl_sequential.specs.Sequential.{State, history_of}
-use Rattle.vl_sequential.specs.Exchanges.{Exchange, KeepsUp, last_state}
+use Rattle.vl_script_model.specs.Sequential.{State, history_of}
+use Rattle.vl_script_model.specs.Exchanges.{Exchange, KeepsUp, last_state}
 use Rattle.vl_model.specs.History.{Extends}
-use Rattle.vl_sequential.specs.Between.{Showing, Stopping}
-use Rattle.vl_sequential.specs.Endings.{Culprit, TheDisk, TheReader, TheSink, TheSource, CountsFaultsOf, Evidence}
-use Rattle.vl_sequential.specs.Endings.{CutsAnswer, IsBetweenLines, culprit_of, last_line}
-use Rattle.vl_sequential.specs.Runs.{Script, exchanges, next_number, Stops, Course, course, Outside, EvidenceOf, EndsRun, EndsRunBy}
-use Rattle.vl_sequential.specs.Start.{EvidenceFromStart, FailsAtTables, StartsIn, StoppedAtOpening}
-use Rattle.vl_sequential.specs.Durable.{Holding, IsAsBefore, LeavesItsHistory, StaysShown, Tells, HoldsState, CrashesShow}
-use Rattle.vl_sequential.specs.Durable.{GoesAlong, DiskEnds, DiskEndsFrom}
-use Rattle.vl_sequential.specs.Opening.{ending_unopened, why_refused}
+use Rattle.vl_script_model.specs.Between.{Showing, Stopping}
+use Rattle.vl_script_model.specs.Endings.{Culprit, TheDisk, TheReader, TheSink, TheSource, CountsFaultsOf, Evidence}
+use Rattle.vl_script_model.specs.Endings.{CutsAnswer, IsBetweenLines, culprit_of, last_line}
+use Rattle.vl_script_model.specs.Runs.{Script, exchanges, next_number, Stops, Course, course, Outside, EvidenceOf, EndsRun, EndsRunBy}
+use Rattle.vl_script_model.specs.Start.{EvidenceFromStart, FailsAtTables, StartsIn, StoppedAtOpening}
+use Rattle.vl_script_model.specs.Durable.{Holding, IsAsBefore, LeavesItsHistory, StaysShown, Tells, HoldsState, CrashesShow}
+use Rattle.vl_script_model.specs.Durable.{GoesAlong, DiskEnds, DiskEndsFrom}
+use Rattle.vl_script_model.specs.Opening.{ending_unopened, why_refused}
 use Rattle.vl_engine.specs.Opening.{IsFault}
-use Rattle.vl_sequential.specs.declared.fails.Refusal.{Refusal}
-use Rattle.vl_sequential.specs.declared.fails.Refusal.TheVariants as refusals
-use Rattle.vl_sequential.specs.Steps.{EndsBefore, FinishesBy}
-use Rattle.vl_sequential.specs.declared.ending.Ending.{Ending}
-use Rattle.vl_sequential.specs.declared.ending.Ending.TheVariants.{BadWords, DiskFault, NoMemory, Refused, Stopped, WriteFault}
-use Rattle.vl_sequential.specs.laws.Betweens.{extends_itself}
-use Rattle.vl_sequential.specs.laws.Ends.{ends_weaker, evidence_weaker, finished, or_cut, finish_counts, counts_none}
-use Rattle.vl_sequential.specs.laws.DiskSteps.{IsWatched, exchanges_extend, goes_wider, goes_then, at_end, ends_later, rose_earlier}
+use Rattle.vl_script_model.specs.declared.fails.Refusal.{Refusal}
+use Rattle.vl_script_model.specs.declared.fails.Refusal.TheVariants as refusals
+use Rattle.vl_script_model.specs.Steps.{EndsBefore, FinishesBy}
+use Rattle.vl_script_model.specs.declared.ending.Ending.{Ending}
+use Rattle.vl_script_model.specs.declared.ending.Ending.TheVariants.{BadWords, DiskFault, NoMemory, Refused, Stopped, WriteFault}
+use Rattle.vl_script_model.specs.laws.Betweens.{extends_itself}
+use Rattle.vl_script_model.specs.laws.Ends.{ends_weaker, evidence_weaker, finished, or_cut, finish_counts, counts_none}
+use Rattle.vl_script_model.specs.laws.DiskSteps.{IsWatched, exchanges_extend, goes_wider, goes_then, at_end, ends_later, rose_earlier}
 
 -- ---- where it begins
 

@@ -13,14 +13,14 @@ use Rattle.vl_recover.specs.declared.fails.OpenError.{OpenError}
 use Rattle.vl_recover.specs.declared.fails.OpenError.TheVariants as why
 use Rattle.vl_recover.specs.opening.Opening.{NamesNoTable}
 use Rattle.vl_recover.specs.opening.Results.{counted}
-use Rattle.vl_sequential.specs.Durable.{IsAsBefore}
-use Rattle.vl_sequential.specs.Endings.{CountsFaultsOf, TheDisk}
-use Rattle.vl_sequential.specs.Failing.{ReaderFailed}
-use Rattle.vl_sequential.specs.Opening.{ending_unopened, why_refused}
-use Rattle.vl_sequential.specs.Start.{EndsAtTables, FailsAtTables}
-use Rattle.vl_sequential.specs.Steps.{EndsFor, FinishesBy}
-use Rattle.vl_sequential.specs.declared.ending.Ending.{Ending}
-use Rattle.vl_sequential.specs.declared.fails.Refusal.{Refusal}
+use Rattle.vl_script_model.specs.Durable.{IsAsBefore}
+use Rattle.vl_script_model.specs.Endings.{CountsFaultsOf, TheDisk}
+use Rattle.vl_script_model.specs.Failing.{ReaderFailed}
+use Rattle.vl_script_model.specs.Opening.{ending_unopened, why_refused}
+use Rattle.vl_script_model.specs.Start.{EndsAtTables, FailsAtTables}
+use Rattle.vl_script_model.specs.Steps.{EndsFor, FinishesBy}
+use Rattle.vl_script_model.specs.declared.ending.Ending.{Ending}
+use Rattle.vl_script_model.specs.declared.fails.Refusal.{Refusal}
 use Rattle.vl_replay.proofs.Runs.OpenedRuns.{counts_disk}
 use Rattle.vl_replay.proofs.Runs.Refusals.{fault_for, fault_of, no_fault}
 

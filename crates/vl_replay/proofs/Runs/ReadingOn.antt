@@ -4,7 +4,7 @@ use Rattle.std.proofs.Common.{false, cond, List, [], ◌∷◌, ◌++◌, length
 use Rattle.std.proofs.lemmas.Grind.{flat_map-append}
 use Rattle.std.proofs.lemmas.Bool.Decides.{nat_tests}
 use Rattle.vl_disk.specs.Faults.{Rose}
-use Rattle.vl_sequential.specs.Runs.{IsFront}
+use Rattle.vl_script_model.specs.Runs.{IsFront}
 use Rattle.std.specs.List.{flat_map, AllByRecursion}
 use Rattle.std.specs.Prelude.{Option, Some, None, unwrap_or, nat_le}
 use Rattle.vl_io.specs.declared.sink.Sink as sink
@@ -12,19 +12,19 @@ use Rattle.vl_io.specs.Sink.{Takes}
 use Rattle.vl_recover.specs.declared.fails.OpenError.{OpenError}
 use Rattle.vl_script.specs.Script.{lines_of, text_of, longest_line}
 use Rattle.vl_script.specs.declared.answer.Answer.{Answer}
-use Rattle.vl_sequential.specs.Exchanges.{KeepsUp, ended_lines}
+use Rattle.vl_script_model.specs.Exchanges.{KeepsUp, ended_lines}
 use Rattle.vl_disk.specs.declared.name.Name.{Name}
-use Rattle.vl_sequential.specs.Endings.{bad_line, damage_line, disk_fault_line, line_number}
-use Rattle.vl_sequential.specs.Input.{ReadsLine}
-use Rattle.vl_sequential.specs.Opening.{ending_unopened}
-use Rattle.vl_sequential.specs.Reading.{IsLine, IsNoLine, Streams, TakesAnswers, TakesSome, BeginsBadly, BeginsWell}
-use Rattle.vl_sequential.specs.Reading.{ReadsInput, HasRead, ReadsOn, EndsBadly, AnswersText}
-use Rattle.vl_sequential.specs.Steps.{EndsAtDamage, Finishes, FinishesBy}
-use Rattle.vl_sequential.specs.declared.ending.Ending.{Ending}
-use Rattle.vl_sequential.specs.declared.ending.Ending.TheVariants.{Complete, BadLine, Damaged, NoMemory, ReaderFault, WriteFault}
-use Rattle.vl_sequential.specs.declared.input.lines.Next.TheVariants.{Line as WholeLine, LastLine, TooLong}
-use Rattle.vl_sequential.specs.laws.Ends.{ended_lines-line, keeps_up_after, takes_both, takes_nothing, or_cut}
-use Rattle.vl_sequential.specs.laws.ReadLines.{lines_of-ended, lines_of-unended}
+use Rattle.vl_script_model.specs.Endings.{bad_line, damage_line, disk_fault_line, line_number}
+use Rattle.vl_script_model.specs.Input.{ReadsLine}
+use Rattle.vl_script_model.specs.Opening.{ending_unopened}
+use Rattle.vl_script_model.specs.Reading.{IsLine, IsNoLine, Streams, TakesAnswers, TakesSome, BeginsBadly, BeginsWell}
+use Rattle.vl_script_model.specs.Reading.{ReadsInput, HasRead, ReadsOn, EndsBadly, AnswersText}
+use Rattle.vl_script_model.specs.Steps.{EndsAtDamage, Finishes, FinishesBy}
+use Rattle.vl_script_model.specs.declared.ending.Ending.{Ending}
+use Rattle.vl_script_model.specs.declared.ending.Ending.TheVariants.{Complete, BadLine, Damaged, NoMemory, ReaderFault, WriteFault}
+use Rattle.vl_script_model.specs.declared.input.lines.Next.TheVariants.{Line as WholeLine, LastLine, TooLong}
+use Rattle.vl_script_model.specs.laws.Ends.{ended_lines-line, keeps_up_after, takes_both, takes_nothing, or_cut}
+use Rattle.vl_script_model.specs.laws.ReadLines.{lines_of-ended, lines_of-unended}
 use Rattle.vl_replay.proofs.Runs.OpenedRuns.{of_unopened}
 
 -- ---- endings

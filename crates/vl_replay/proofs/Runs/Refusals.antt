@@ -10,11 +10,11 @@ use Rattle.vl_recover.specs.opening.Opening as openings
 use Rattle.vl_recover.specs.laws.opening.OpeningLaws.{single_opening}
 use Rattle.vl_recover.specs.declared.fails.OpenError.{OpenError}
 use Rattle.vl_recover.specs.declared.fails.OpenError.TheVariants as why
-use Rattle.vl_sequential.specs.Opening.{IsRefused, why_refused}
+use Rattle.vl_script_model.specs.Opening.{IsRefused, why_refused}
 use Rattle.vl_engine.specs.Opening.{IsFault, AnswersOpening}
-use Rattle.vl_sequential.specs.Steps.{CameFirst, EndsFor}
-use Rattle.vl_sequential.specs.declared.fails.Refusal.{Refusal}
-use Rattle.vl_sequential.specs.declared.fails.Refusal.TheVariants.{NotAStore, NewerFormat, Damaged, Exhausted}
+use Rattle.vl_script_model.specs.Steps.{CameFirst, EndsFor}
+use Rattle.vl_script_model.specs.declared.fails.Refusal.{Refusal}
+use Rattle.vl_script_model.specs.declared.fails.Refusal.TheVariants.{NotAStore, NewerFormat, Damaged, Exhausted}
 
 -- ---- one refusal
 

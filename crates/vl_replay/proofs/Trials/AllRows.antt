@@ -21,7 +21,7 @@ use Rattle.vl_model.specs.Keys.{Row, Writes, key_cmp}
 use Rattle.vl_model.specs.Reads.{is_within, rows_written}
 use Rattle.vl_model.specs.declared.change.Change.{Change}
 use Rattle.vl_model.specs.declared.way.Way.TheVariants.{Up}
-use Rattle.vl_sequential.specs.Contents.{AreRead, rows_at_once}
+use Rattle.vl_script_model.specs.Contents.{AreRead, rows_at_once}
 
 -- the rows from a key on
 abbrev pub rows_from : List ℕ → List Row → List Row

@@ -21,31 +21,31 @@ use Rattle.vl_recover.specs.opening.Results.{counted, recovery_by}
 use Rattle.vl_recover.specs.declared.fails.OpenFail.{OpenFail}
 use Rattle.vl_recover.specs.declared.fails.OpenError.{OpenError}
 use Rattle.vl_recover.specs.declared.fails.OpenError.TheVariants as why
-use Rattle.vl_sequential.specs.Durable.{HoldsState, Tells}
-use Rattle.vl_sequential.specs.Endings.{no_memory_line}
-use Rattle.vl_sequential.specs.Opening.{IsRefused, ending_unopened}
+use Rattle.vl_script_model.specs.Durable.{HoldsState, Tells}
+use Rattle.vl_script_model.specs.Endings.{no_memory_line}
+use Rattle.vl_script_model.specs.Opening.{IsRefused, ending_unopened}
 use Rattle.vl_replay.specs.Opened.{disk_behind}
 use Rattle.vl_engine.specs.Opening.{AnswersOpening, IsDiskFault, IsFault, reader_faults, why_of}
 use Rattle.std.specs.Prelude.{Option as Maybe}
 use Rattle.vl_mem.specs.CrashImage.{crash_image}
 use Rattle.vl_model.specs.History.{last_number}
-use Rattle.vl_sequential.specs.Reopens.{Reopens}
+use Rattle.vl_script_model.specs.Reopens.{Reopens}
 use Rattle.vl_disk.specs.declared.writer.Writer.{Ghosts as Writers}
 use Rattle.vl_replay.specs.Replaying.{StandsFor, disk_of}
-use Rattle.vl_sequential.specs.Start.{StartsIn}
-use Rattle.vl_core.specs.Found.{IsDurable}
-use Rattle.vl_sequential.specs.laws.StartLaws.{empty_stay, finds_nothing, no_commits, started_durable, starts_empty}
-use Rattle.vl_sequential.specs.Steps.{EndsUnopened, Finishes, FinishesBy}
-use Rattle.vl_sequential.specs.Stored.{IsStored}
-use Rattle.vl_sequential.specs.Trial.{begun}
-use Rattle.vl_sequential.specs.Trying.{IsOnTrial, StopsOpening}
-use Rattle.vl_sequential.specs.declared.ending.Ending.{Ending}
-use Rattle.vl_sequential.specs.declared.ending.Ending.TheVariants.{NoMemory}
-use Rattle.vl_sequential.specs.declared.fails.Refusal.{Refusal}
-use Rattle.vl_sequential.specs.declared.fails.Refusal.TheVariants as refusals
+use Rattle.vl_script_model.specs.Start.{StartsIn}
+use Rattle.vl_engine_laws.specs.Found.{IsDurable}
+use Rattle.vl_script_model.specs.laws.StartLaws.{empty_stay, finds_nothing, no_commits, started_durable, starts_empty}
+use Rattle.vl_script_model.specs.Steps.{EndsUnopened, Finishes, FinishesBy}
+use Rattle.vl_script_model.specs.Stored.{IsStored}
+use Rattle.vl_script_model.specs.Trial.{begun}
+use Rattle.vl_script_model.specs.Trying.{IsOnTrial, StopsOpening}
+use Rattle.vl_script_model.specs.declared.ending.Ending.{Ending}
+use Rattle.vl_script_model.specs.declared.ending.Ending.TheVariants.{NoMemory}
+use Rattle.vl_script_model.specs.declared.fails.Refusal.{Refusal}
+use Rattle.vl_script_model.specs.declared.fails.Refusal.TheVariants as refusals
 use Rattle.vl_replay.specs.declared.replayer.Replayer.{Replayer}
-use Rattle.vl_sequential.specs.laws.NumbersLeft.{reopens_not_refused}
-use Rattle.vl_sequential.specs.laws.OpeningStopped.{opening_reopens}
+use Rattle.vl_script_model.specs.laws.NumbersLeft.{reopens_not_refused}
+use Rattle.vl_script_model.specs.laws.OpeningStopped.{opening_reopens}
 use Rattle.vl_replay.proofs.Runs.Refusals.{opened_not_refused}
 
 some_list : (a b : List ℕ) → Some a ≡ Some b → a ≡ b

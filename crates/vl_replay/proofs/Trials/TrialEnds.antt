@@ -13,24 +13,24 @@ use Rattle.vl_mem.specs.declared.stopping_disk.StoppingDisk.{StoppingDisk}
 use Rattle.vl_model.specs.History.{last_number}
 use Rattle.vl_recover.specs.declared.fails.OpenError.{OpenError}
 use Rattle.vl_recover.specs.declared.fails.OpenError.TheVariants as why
-use Rattle.vl_sequential.specs.Endings.{Culprit, CountsFaultsOf, culprit_of, status_of, no_memory_line, read_fault_line}
-use Rattle.vl_sequential.specs.Exchanges.{Exchange, answers_text, last_state}
-use Rattle.vl_sequential.specs.Reopens.{Reopens}
-use Rattle.vl_sequential.specs.Sequential.{State, history_of}
-use Rattle.vl_sequential.specs.Opening.{ending_unopened}
+use Rattle.vl_script_model.specs.Endings.{Culprit, CountsFaultsOf, culprit_of, status_of, no_memory_line, read_fault_line}
+use Rattle.vl_script_model.specs.Exchanges.{Exchange, answers_text, last_state}
+use Rattle.vl_script_model.specs.Reopens.{Reopens}
+use Rattle.vl_script_model.specs.Sequential.{State, history_of}
+use Rattle.vl_script_model.specs.Opening.{ending_unopened}
 use Rattle.vl_engine.specs.Opening.{IsFault}
-use Rattle.vl_sequential.specs.Runs.{IsFront}
-use Rattle.vl_sequential.specs.Steps.{EndsUnopened, Finishes}
-use Rattle.vl_sequential.specs.Trial.{EndsTrial, IsLastFront, ReachesEnd, TakesFirst, Trial, exchanges_unstopped}
-use Rattle.vl_sequential.specs.Trial.{answered_lines, answered_state, at_stop, before_stop, begun, reopened_state}
-use Rattle.vl_sequential.specs.Trial.{state_behind_stop, trial_text}
-use Rattle.vl_sequential.specs.Trying.{ComesTo, LeavesToOpen, ReopensAs, StopsOpening, trial_of}
-use Rattle.vl_sequential.specs.declared.ending.Ending.{Ending}
-use Rattle.vl_sequential.specs.declared.ending.Ending.TheVariants.{Complete, BadLine, BadWords, DiskFault, ReaderFault}
-use Rattle.vl_sequential.specs.declared.ending.Ending.TheVariants.{Refused, Damaged, NoMemory, ReadFault, WriteFault}
-use Rattle.vl_sequential.specs.declared.ending.Ending.TheVariants.{AnswerCut, Stopped}
-use Rattle.vl_sequential.specs.laws.Ends.{or_cut, takes_both, takes_nothing}
-use Rattle.vl_sequential.specs.laws.TrialLines.{chosen_false, is_past}
+use Rattle.vl_script_model.specs.Runs.{IsFront}
+use Rattle.vl_script_model.specs.Steps.{EndsUnopened, Finishes}
+use Rattle.vl_script_model.specs.Trial.{EndsTrial, IsLastFront, ReachesEnd, TakesFirst, Trial, exchanges_unstopped}
+use Rattle.vl_script_model.specs.Trial.{answered_lines, answered_state, at_stop, before_stop, begun, reopened_state}
+use Rattle.vl_script_model.specs.Trial.{state_behind_stop, trial_text}
+use Rattle.vl_script_model.specs.Trying.{ComesTo, LeavesToOpen, ReopensAs, StopsOpening, trial_of}
+use Rattle.vl_script_model.specs.declared.ending.Ending.{Ending}
+use Rattle.vl_script_model.specs.declared.ending.Ending.TheVariants.{Complete, BadLine, BadWords, DiskFault, ReaderFault}
+use Rattle.vl_script_model.specs.declared.ending.Ending.TheVariants.{Refused, Damaged, NoMemory, ReadFault, WriteFault}
+use Rattle.vl_script_model.specs.declared.ending.Ending.TheVariants.{AnswerCut, Stopped}
+use Rattle.vl_script_model.specs.laws.Ends.{or_cut, takes_both, takes_nothing}
+use Rattle.vl_script_model.specs.laws.TrialLines.{chosen_false, is_past}
 use Rattle.vl_replay.proofs.Runs.Refusals.{fault_for}
 
 -- ---- the last piece, behind all answers

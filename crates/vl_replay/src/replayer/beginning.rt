@@ -1,16 +1,16 @@
 //! Begins of transactions and views.
 ghost use Rattle.std.specs.Prelude.{◌≡◌, None, OnOk};
-ghost use Rattle.vl_layout.specs.Store.Reading.{a_transaction, a_view, begin_as};
-ghost use Rattle.vl_layout.specs.Store.Things.{thing_of};
+ghost use Rattle.vl_engine_model.specs.Store.Reading.{a_transaction, a_view, begin_as};
+ghost use Rattle.vl_engine_model.specs.Store.Things.{thing_of};
 ghost use Rattle.vl_replay.specs.Replaying.{MakesStep, OnlyNoMemory, RemovesIn, ServesFor};
-ghost use Rattle.vl_sequential.specs.Sequential.{State};
+ghost use Rattle.vl_script_model.specs.Sequential.{State};
 
 use crate::replayer::Served;
 use crate::replayer::open::{Thing, put};
 use vl_disk::Disk;
 use vl_engine::BeginFail;
 use vl_script::{Answer, Ident};
-use vl_sequential::Halt;
+use vl_script_model::Halt;
 
 impl<D: Disk> Served<D> {
     /// Begins a transaction of this name, which is free.

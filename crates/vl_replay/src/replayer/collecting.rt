@@ -2,35 +2,35 @@
 ghost use Rattle.std.specs.Prelude.{◌≡◌, Err, false, IfOk, map, None, Ok, OnOk, Option};
 ghost use Rattle.std.specs.Option.{option_map_or};
 ghost use Rattle.std.specs.Str.{bytes_eq};
-ghost use Rattle.vl_core.specs.Carries.{StaysUntold};
-ghost use Rattle.vl_core.specs.Shown.{Shown};
+ghost use Rattle.vl_engine_laws.specs.Carries.{StaysUntold};
+ghost use Rattle.vl_engine_laws.specs.Shown.{Shown};
 ghost use Rattle.vl_disk.specs.Faults.{HasCause};
 ghost use Rattle.vl_engine.specs.Lent.{Opens};
 ghost use Rattle.vl_disk.specs.declared.name.Name.{Name};
 ghost use Rattle.vl_disk.specs.declared.name.Name.TheVariants as names;
-ghost use Rattle.vl_layout.specs.Store.Dispatch.{batch_by, drop_by, move_by, pick_as, step_of};
-ghost use Rattle.vl_layout.specs.Store.Lines as store_lines;
-ghost use Rattle.vl_layout.specs.Store.Things.{thing_of};
-ghost use Rattle.vl_sequential.specs.Durable.{CarriesOut};
-ghost use Rattle.vl_sequential.specs.Failing.{MovesRecords, ReaderFailed, SeeksRecords};
-ghost use Rattle.vl_sequential.specs.Halts.{HaltsByDamage, HaltsByDisk, HaltsByRead, HaltsByReader};
+ghost use Rattle.vl_engine_model.specs.Store.Dispatch.{batch_by, drop_by, move_by, pick_as, step_of};
+ghost use Rattle.vl_engine_model.specs.Store.Lines as store_lines;
+ghost use Rattle.vl_engine_model.specs.Store.Things.{thing_of};
+ghost use Rattle.vl_script_model.specs.Durable.{CarriesOut};
+ghost use Rattle.vl_script_model.specs.Failing.{MovesRecords, ReaderFailed, SeeksRecords};
+ghost use Rattle.vl_script_model.specs.Halts.{HaltsByDamage, HaltsByDisk, HaltsByRead, HaltsByReader};
 ghost use Rattle.vl_replay.specs.Handed.{CanHandIn, KeepsLent};
 ghost use Rattle.vl_replay.specs.Passing.{PassesIn, TakesPass, halt_at};
 ghost use Rattle.vl_replay.specs.Replaying.{MakesStep, MergesIn, OnlyNoMemory, RemovesIn, ServesFor, StandsPassing, StandsWith, state_by};
-ghost use Rattle.vl_sequential.specs.Sequential.{State, told_segment};
-ghost use Rattle.vl_sequential.specs.Stored.{IsStopped, IsStored};
-ghost use Rattle.vl_sequential.specs.declared.fails.Halt.TheVariants as halts;
+ghost use Rattle.vl_script_model.specs.Sequential.{State, told_segment};
+ghost use Rattle.vl_script_model.specs.Stored.{IsStopped, IsStored};
+ghost use Rattle.vl_script_model.specs.declared.fails.Halt.TheVariants as halts;
 
 use crate::replayer::passing::Passing;
 use crate::replayer::planned::Planned;
 use crate::replayer::{Served, merging};
 use std::alloc::{AllocError, Global};
-use vl_collect::{Pass, PassFault};
-use vl_disk::Disk;
+use vl_collect::Pass;
+use vl_disk::{Disk, ReadFault};
 use vl_engine::{MoveFail, PickFail};
-use vl_layout::SegmentStat;
+use vl_engine_model::SegmentStat;
 use vl_script::{Answer, Ident, SegmentLine};
-use vl_sequential::Halt;
+use vl_script_model::Halt;
 use vl_version::Base;
 
 /// Whether the pass that is open has this name.
@@ -167,13 +167,13 @@ pub(super) fn batch<D: Disk>(
 }
 
 // How a line ends whose reading failed.
-fn halt_at(fault: PassFault) -> Halt
+fn halt_at(fault: ReadFault) -> Halt
     ensures { result ≡ halt_at fault }
 {
     match fault {
-        PassFault::NoMemory => Halt::NoMemory,
-        PassFault::Disk { name } => Halt::Read { name },
-        PassFault::Damaged { name, place } => Halt::Damaged { name, place },
+        ReadFault::NoMemory => Halt::NoMemory,
+        ReadFault::Disk { name } => Halt::Read { name },
+        ReadFault::Damaged { name, place } => Halt::Damaged { name, place },
     }
 }
 

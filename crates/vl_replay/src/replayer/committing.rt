@@ -3,16 +3,16 @@ ghost use Rattle.std.specs.Prelude.{◌≡◌, Err, OnOk};
 ghost use Rattle.vl_disk.specs.Faults.{HasCause};
 ghost use Rattle.vl_disk.specs.declared.name.Name.{Name};
 ghost use Rattle.vl_disk.specs.declared.name.Name.TheVariants as names;
-ghost use Rattle.vl_core.specs.Carries.{StaysUntold};
-ghost use Rattle.vl_core.specs.Shown.{Shown};
-ghost use Rattle.vl_layout.specs.Store.Reading.{commit_by};
-ghost use Rattle.vl_layout.specs.Store.Things.{thing_of};
-ghost use Rattle.vl_sequential.specs.Durable.{CarriesOut};
-ghost use Rattle.vl_sequential.specs.Halts.{HaltsByDisk, HaltsByRead};
+ghost use Rattle.vl_engine_laws.specs.Carries.{StaysUntold};
+ghost use Rattle.vl_engine_laws.specs.Shown.{Shown};
+ghost use Rattle.vl_engine_model.specs.Store.Reading.{commit_by};
+ghost use Rattle.vl_engine_model.specs.Store.Things.{thing_of};
+ghost use Rattle.vl_script_model.specs.Durable.{CarriesOut};
+ghost use Rattle.vl_script_model.specs.Halts.{HaltsByDisk, HaltsByRead};
 ghost use Rattle.vl_replay.specs.Replaying.{MakesStep, RemovesIn, ServesFor, state_by};
-ghost use Rattle.vl_sequential.specs.Sequential.{State};
-ghost use Rattle.vl_sequential.specs.Stored.{IsStopped, IsStored};
-ghost use Rattle.vl_sequential.specs.declared.fails.Halt.TheVariants as halts;
+ghost use Rattle.vl_script_model.specs.Sequential.{State};
+ghost use Rattle.vl_script_model.specs.Stored.{IsStopped, IsStored};
+ghost use Rattle.vl_script_model.specs.declared.fails.Halt.TheVariants as halts;
 
 use crate::replayer::Served;
 use crate::replayer::open::{Thing, put, take_out};
@@ -20,7 +20,7 @@ use vl_disk::Disk;
 use vl_engine::{CommitFail, Done};
 use vl_model::Counter;
 use vl_script::{Answer, Ident};
-use vl_sequential::Halt;
+use vl_script_model::Halt;
 
 impl<D: Disk> Served<D> {
     /// Makes the transaction of this name the next commit. Where it lives on it keeps its name.

@@ -1,10 +1,10 @@
 //! Ends without a commit.
 ghost use Rattle.std.specs.Prelude.{◌≡◌, Ok};
-ghost use Rattle.vl_layout.specs.Store.Dispatch.{drop_by};
-ghost use Rattle.vl_layout.specs.Store.Things.{thing_of};
+ghost use Rattle.vl_engine_model.specs.Store.Dispatch.{drop_by};
+ghost use Rattle.vl_engine_model.specs.Store.Things.{thing_of};
 ghost use Rattle.vl_replay.specs.Passing.{NamesNoPass};
 ghost use Rattle.vl_replay.specs.Replaying.{MakesStep, NamesNoMerge, RemovesIn, ServesFor};
-ghost use Rattle.vl_sequential.specs.Sequential.{State};
+ghost use Rattle.vl_script_model.specs.Sequential.{State};
 
 use crate::replayer::Served;
 use crate::replayer::open::{Thing, take_out};

@@ -4,19 +4,19 @@ ghost use Rattle.std.specs.Option.{is_some, option_map, option_map_or};
 ghost use Rattle.std.specs.Str.{bytes_eq};
 ghost use Rattle.vl_disk.specs.Faults.{HasCause};
 ghost use Rattle.vl_disk.specs.declared.name.Name.{Name};
-ghost use Rattle.vl_sequential.specs.Asking.{AsksForRow};
-ghost use Rattle.vl_core.specs.Shown.{Shown};
-ghost use Rattle.vl_sequential.specs.Durable.{CarriesOut};
-ghost use Rattle.vl_sequential.specs.Failing.{FailsAt, ReaderFailed, ReadsTables, beside};
-ghost use Rattle.vl_sequential.specs.Halts.{HaltsByDamage, HaltsByDisk, HaltsByRead, HaltsByReader};
+ghost use Rattle.vl_script_model.specs.Asking.{AsksForRow};
+ghost use Rattle.vl_engine_laws.specs.Shown.{Shown};
+ghost use Rattle.vl_script_model.specs.Durable.{CarriesOut};
+ghost use Rattle.vl_script_model.specs.Failing.{FailsAt, ReaderFailed, ReadsTables, beside};
+ghost use Rattle.vl_script_model.specs.Halts.{HaltsByDamage, HaltsByDisk, HaltsByRead, HaltsByReader};
 ghost use Rattle.vl_replay.specs.Handed.{CanHandIn};
 ghost use Rattle.vl_replay.specs.Passing.{PassesIn, TellsUsed, name_made};
 ghost use Rattle.vl_replay.specs.Replaying.{MakesStep, MergesIn, RemovesIn, StandsFor, StandsWith, TakesLines, disk_of};
-ghost use Rattle.vl_sequential.specs.Sequential.{IsTold, State, answer_to, state_after, step_to};
+ghost use Rattle.vl_script_model.specs.Sequential.{IsTold, State, answer_to, state_after, step_to};
 ghost use Rattle.vl_replay.specs.Standing.{open_in};
-ghost use Rattle.vl_sequential.specs.Stored.{IsStopped, IsStored};
-ghost use Rattle.vl_sequential.specs.declared.fails.Halt.{Halt as Halts};
-ghost use Rattle.vl_sequential.specs.declared.fails.Halt.TheVariants as halts;
+ghost use Rattle.vl_script_model.specs.Stored.{IsStopped, IsStored};
+ghost use Rattle.vl_script_model.specs.declared.fails.Halt.{Halt as Halts};
+ghost use Rattle.vl_script_model.specs.declared.fails.Halt.TheVariants as halts;
 
 use crate::replayer::choice::Choice;
 use crate::replayer::collecting::{batch, end, is_passing, move_batch, pick, stats};
@@ -28,7 +28,7 @@ use crate::replayer::{Replayer, Served};
 use std::alloc::AllocError;
 use vl_disk::{Disk, HeldFile, Writer};
 use vl_script::{Answer, Ident, Line};
-use vl_sequential::Halt;
+use vl_script_model::Halt;
 use vl_version::Base;
 
 impl<D: Disk> Replayer<D> {

@@ -1,12 +1,12 @@
 //! Reads through a name.
 ghost use Rattle.std.specs.Prelude.{◌≡◌, ◌≤◌};
-ghost use Rattle.vl_layout.specs.Store.Reading.{get_at_by, get_by, scan_by};
-ghost use Rattle.vl_layout.specs.Store.Things.{thing_of};
-ghost use Rattle.vl_sequential.specs.Failing.{ReaderFailed};
-ghost use Rattle.vl_sequential.specs.Halts.{HaltsByDamage, HaltsByDisk, HaltsByReader};
-ghost use Rattle.vl_sequential.specs.Readers.{IsWithoutTables};
+ghost use Rattle.vl_engine_model.specs.Store.Reading.{get_at_by, get_by, scan_by};
+ghost use Rattle.vl_engine_model.specs.Store.Things.{thing_of};
+ghost use Rattle.vl_script_model.specs.Failing.{ReaderFailed};
+ghost use Rattle.vl_script_model.specs.Halts.{HaltsByDamage, HaltsByDisk, HaltsByReader};
+ghost use Rattle.vl_script_model.specs.Readers.{IsWithoutTables};
 ghost use Rattle.vl_replay.specs.Replaying.{MakesStep, OnlyNoMemory, ServesFor};
-ghost use Rattle.vl_sequential.specs.Sequential.{State};
+ghost use Rattle.vl_script_model.specs.Sequential.{State};
 ghost use Rattle.vl_replay.specs.Standing.{tell_of, told_by, told_past, told_value};
 ghost use Rattle.vl_script.specs.declared.answer.Answer.TheVariants.{Rows as TheRows};
 
@@ -16,7 +16,7 @@ use vl_disk::Disk;
 use vl_engine::{AtFail, ReadFail, Rows};
 use vl_model::{Bytes, Value, Way};
 use vl_script::{Answer, Ident};
-use vl_sequential::Halt;
+use vl_script_model::Halt;
 
 impl<D: Disk> Served<D> {
     /// Reads a key, and tells its value with its tag or without.

@@ -3,26 +3,26 @@ ghost use Rattle.std.specs.Prelude.{◌≡◌, ◌⊎◌, Err, OnOk};
 ghost use Rattle.vl_disk.specs.Faults.{HasCause};
 ghost use Rattle.vl_disk.specs.declared.name.Name.{Name};
 ghost use Rattle.vl_disk.specs.declared.name.Name.TheVariants as names;
-ghost use Rattle.vl_core.specs.Carries.{StaysUntold};
-ghost use Rattle.vl_core.specs.Shown.{Shown};
+ghost use Rattle.vl_engine_laws.specs.Carries.{StaysUntold};
+ghost use Rattle.vl_engine_laws.specs.Shown.{Shown};
 ghost use Rattle.vl_engine.specs.Collecting.{Collects};
-ghost use Rattle.vl_layout.specs.Rulings.Flush.{flush_ruling};
-ghost use Rattle.vl_layout.specs.Rulings.Keep.{keep_ruling};
-ghost use Rattle.vl_layout.specs.Rulings.Rotate.{rotate_ruling};
-ghost use Rattle.vl_layout.specs.Store.Dispatch.{keep_by, step_by};
-ghost use Rattle.vl_sequential.specs.Durable.{CarriesOut};
-ghost use Rattle.vl_sequential.specs.Halts.{HaltsByDisk, HaltsByRead};
+ghost use Rattle.vl_engine_model.specs.Rulings.Flush.{flush_ruling};
+ghost use Rattle.vl_engine_model.specs.Rulings.Keep.{keep_ruling};
+ghost use Rattle.vl_engine_model.specs.Rulings.Rotate.{rotate_ruling};
+ghost use Rattle.vl_engine_model.specs.Store.Dispatch.{keep_by, step_by};
+ghost use Rattle.vl_script_model.specs.Durable.{CarriesOut};
+ghost use Rattle.vl_script_model.specs.Halts.{HaltsByDisk, HaltsByRead};
 ghost use Rattle.vl_replay.specs.Replaying.{MakesStep, RemovesIn, ServesFor, StandsRemoving, state_by, state_by_step};
-ghost use Rattle.vl_sequential.specs.Sequential.{State, history_of};
+ghost use Rattle.vl_script_model.specs.Sequential.{State, history_of};
 ghost use Rattle.vl_replay.specs.Standing.{told_keep, told_step};
-ghost use Rattle.vl_sequential.specs.Stored.{IsStopped, IsStored};
-ghost use Rattle.vl_sequential.specs.declared.fails.Halt.TheVariants as halts;
+ghost use Rattle.vl_script_model.specs.Stored.{IsStopped, IsStored};
+ghost use Rattle.vl_script_model.specs.declared.fails.Halt.TheVariants as halts;
 
 use crate::replayer::Served;
 use vl_disk::Disk;
 use vl_engine::{KeepFail, StepFail};
 use vl_script::Answer;
-use vl_sequential::Halt;
+use vl_script_model::Halt;
 
 impl<D: Disk> Served<D> {
     /// Seals the log that takes commits and begins a new one, where something stands in it: a commit, or records that were moved.

@@ -1,27 +1,27 @@
 //! Removal of the files that nothing holds any more.
 ghost use Rattle.std.specs.Prelude.{◌≡◌, Err, None, OnOk, true};
-ghost use Rattle.vl_core.specs.Carries.{StaysUntold};
-ghost use Rattle.vl_core.specs.Represents.{file_of};
-ghost use Rattle.vl_core.specs.Shown.{Shown};
+ghost use Rattle.vl_engine_laws.specs.Carries.{StaysUntold};
+ghost use Rattle.vl_engine_laws.specs.Represents.{file_of};
+ghost use Rattle.vl_engine_laws.specs.Shown.{Shown};
 ghost use Rattle.vl_disk.specs.Faults.{HasCause};
 ghost use Rattle.vl_disk.specs.declared.name.Name.{Name};
 ghost use Rattle.vl_engine.specs.Collecting.{Collects};
-ghost use Rattle.vl_layout.specs.Rulings.Sweep.{sweep_ruling, swept};
-ghost use Rattle.vl_layout.specs.Stock.{is_in};
-ghost use Rattle.vl_layout.specs.Store.Dispatch.{sweep_by};
-ghost use Rattle.vl_sequential.specs.Durable.{CarriesOut};
-ghost use Rattle.vl_sequential.specs.Halts.{HaltsByDisk, HaltsByRead};
+ghost use Rattle.vl_engine_model.specs.Rulings.Sweep.{sweep_ruling, swept};
+ghost use Rattle.vl_engine_model.specs.Stock.{is_in};
+ghost use Rattle.vl_engine_model.specs.Store.Dispatch.{sweep_by};
+ghost use Rattle.vl_script_model.specs.Durable.{CarriesOut};
+ghost use Rattle.vl_script_model.specs.Halts.{HaltsByDisk, HaltsByRead};
 ghost use Rattle.vl_replay.specs.Replaying.{MakesStep, RemovesIn, StandsRemoving, state_by};
-ghost use Rattle.vl_sequential.specs.Sequential.{State, history_of};
+ghost use Rattle.vl_script_model.specs.Sequential.{State, history_of};
 ghost use Rattle.vl_replay.specs.Standing.{told_sweep};
-ghost use Rattle.vl_sequential.specs.Stored.{IsStopped, IsStored};
-ghost use Rattle.vl_sequential.specs.declared.fails.Halt.TheVariants as halts;
+ghost use Rattle.vl_script_model.specs.Stored.{IsStopped, IsStored};
+ghost use Rattle.vl_script_model.specs.declared.fails.Halt.TheVariants as halts;
 
 use crate::replayer::Served;
 use vl_disk::Disk;
 use vl_engine::SweepFail;
 use vl_script::Answer;
-use vl_sequential::Halt;
+use vl_script_model::Halt;
 
 impl<D: Disk> Served<D> {
     /// Removes the retired files that nothing holds any more, and tells how many went.

@@ -2,12 +2,12 @@
 ghost use Rattle.std.specs.Prelude.{◌≡◌, List};
 ghost use Rattle.vl_engine.specs.Reading.{OnlyWrites};
 ghost use Rattle.vl_engine.specs.Sees.{Sees};
-ghost use Rattle.vl_layout.specs.Store.Reading.{write_by};
-ghost use Rattle.vl_layout.specs.Store.Things.{thing_of};
+ghost use Rattle.vl_engine_model.specs.Store.Reading.{write_by};
+ghost use Rattle.vl_engine_model.specs.Store.Things.{thing_of};
 ghost use Rattle.vl_model.specs.History.{History};
 ghost use Rattle.vl_model.specs.Reads.{Read};
 ghost use Rattle.vl_replay.specs.Replaying.{MakesStep, OnlyNoMemory, ServesFor};
-ghost use Rattle.vl_sequential.specs.Sequential.{State};
+ghost use Rattle.vl_script_model.specs.Sequential.{State};
 ghost use Rattle.vl_replay.specs.Standing.{change_of, told_write};
 ghost use Rattle.vl_txn.specs.Refusals.{IsWritten};
 
@@ -17,7 +17,7 @@ use vl_disk::{Disk, HeldFile, Reader};
 use vl_engine::{SetFail, Txn};
 use vl_model::Bytes;
 use vl_script::{Answer, Ident};
-use vl_sequential::Halt;
+use vl_script_model::Halt;
 
 impl<D: Disk> Served<D> {
     /// Writes a value with its tag, or deletes the key where there is none.

@@ -1,10 +1,9 @@
 ghost use Rattle.std.specs.Prelude.{◌≡◌, ◌+◌, ◌<◌, ◌≤◌, ◌^◌, ◌↔◌, length, IsErrOf, IsTrue};
 ghost use Rattle.vl_disk.specs.DiskState.{bytes_at};
 ghost use Rattle.vl_seglog.specs.Answers.{Answers};
-ghost use Rattle.vl_seglog.specs.declared.fault.LogFault.TheVariants as why;
+ghost use Rattle.vl_disk.specs.declared.read_fault.ReadFault.TheVariants as why;
 
-use crate::fault::LogFault;
-use vl_disk::{HeldFile, Name, Reader};
+use vl_disk::{HeldFile, Name, ReadFault, Reader};
 
 /// Whether so many bytes from a place on are all in the file.
 pub fn is_inside<H: HeldFile>(held: &H, place: u64, count: u64) -> bool
@@ -22,7 +21,7 @@ pub fn fill<H: HeldFile, R: Reader<Held = H>>(
     number: u32,
     place: u64,
     out: &mut [u8],
-) -> Result<(), LogFault>
+) -> Result<(), ReadFault>
     requires { place + length out.old ≤ H.size held.now }
     ensures answers { Answers (R.faults reader.old) (R.faults reader.new) number (H.bytes held.now)
         (λ bytes done. out.new ≡ bytes_at place (length out.old) bytes) (λ bytes damage. ⊥) result }
@@ -30,7 +29,7 @@ pub fn fill<H: HeldFile, R: Reader<Held = H>>(
 {
     match reader.read(held, place, out) {
         Ok(()) => Ok(()),
-        Err(_) => Err(LogFault::Disk {
+        Err(_) => Err(ReadFault::Disk {
             name: Name::Log(number),
         }),
     }

@@ -6,14 +6,14 @@ ghost use Rattle.vl_seglog.specs.Placed.{IsFrameAt};
 ghost use Rattle.vl_seglog.specs.Reading.{frame_of};
 ghost use Rattle.vl_seglog.specs.Sealed.{HasLength, IsFound, IsTorn};
 
-use crate::fault::{LogFault, damaged};
+use crate::fault::damaged;
 use crate::frame::Frame;
 use crate::reading::read_next;
 use crate::sealed::SealedLog;
 use crate::sealed::fill::{fill, is_inside};
 use byteorder::{BigEndian, ByteOrder};
 use std::alloc::Global;
-use vl_disk::{HeldFile, Reader};
+use vl_disk::{HeldFile, ReadFault, Reader};
 use vl_frame::{FRAME_BYTES, HEAD_BYTES};
 
 impl<H: HeldFile> SealedLog<H> {
@@ -25,7 +25,7 @@ impl<H: HeldFile> SealedLog<H> {
         alloc: Global,
         reader: &mut R,
         place: u64,
-    ) -> Result<Option<Frame>, LogFault>
+    ) -> Result<Option<Frame>, ReadFault>
         ensures answers { Answers (R.faults reader.old) (R.faults reader.new) self.now.number (H.bytes self.now.held)
             (λ bytes found. IsFound self.now.format self.now.number place bytes found)
             (λ bytes at. IsTorn self.now.format self.now.number place bytes × (at ≡ place)) result }
@@ -47,7 +47,7 @@ impl<H: HeldFile> SealedLog<H> {
     }
 
     // How many bytes a frame at a place has, as its head says.
-    fn length_at<R: Reader<Held = H>>(&self, reader: &mut R, place: u64) -> Result<u64, LogFault>
+    fn length_at<R: Reader<Held = H>>(&self, reader: &mut R, place: u64) -> Result<u64, ReadFault>
         requires { place < H.size self.now.held }
         ensures answers { Answers (R.faults reader.old) (R.faults reader.new) self.now.number (H.bytes self.now.held)
             (λ bytes n. HasLength self.now.number place bytes n)

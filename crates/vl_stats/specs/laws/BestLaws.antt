@@ -12,19 +12,19 @@ use Rattle.std.specs.declared.cmp.Ordering.{Ordering}
 use Rattle.std.specs.declared.cmp.Ordering.TheVariants.{Less, Equal, Greater}
 use Rattle.vl_model.specs.Entries.{by_order}
 use Rattle.vl_model.specs.Numbers.{has}
-use Rattle.vl_layout.specs.Garbage.{best_of, better_of, collectable, discard, is_better, is_worth, stat_of}
-use Rattle.vl_layout.specs.Jobs.{AreDistinct}
-use Rattle.vl_layout.specs.Sources.{head, put_segment, rising, tables}
-use Rattle.vl_layout.specs.Stock.{IsFalling}
-use Rattle.vl_layout.specs.Tidy.{log_numbers, sealed}
-use Rattle.vl_layout.specs.declared.layout.Layout.{Layout}
-use Rattle.vl_layout.specs.declared.segment.Segment.{Segment}
-use Rattle.vl_layout.specs.declared.segment.SegmentStat.{SegmentStat}
-use Rattle.vl_layout.specs.declared.table.Table.{Table}
-use Rattle.vl_layout.specs.laws.RisingLaws.{map-filter}
-use Rattle.vl_layout_laws.specs.laws.Files.{all_filtered, all_weaker, or_false, true_false}
-use Rattle.vl_layout_laws.specs.laws.Steps.{all_rising}
-use Rattle.vl_layout_laws.specs.laws.Stock.{head_least}
+use Rattle.vl_engine_model.specs.Garbage.{best_of, better_of, collectable, discard, is_better, is_worth, stat_of}
+use Rattle.vl_engine_model.specs.Jobs.{AreDistinct}
+use Rattle.vl_engine_model.specs.Sources.{head, put_segment, rising, tables}
+use Rattle.vl_engine_model.specs.Stock.{IsFalling}
+use Rattle.vl_engine_model.specs.Tidy.{log_numbers, sealed}
+use Rattle.vl_engine_model.specs.declared.layout.Layout.{Layout}
+use Rattle.vl_engine_model.specs.declared.segment.Segment.{Segment}
+use Rattle.vl_engine_model.specs.declared.segment.SegmentStat.{SegmentStat}
+use Rattle.vl_engine_model.specs.declared.table.Table.{Table}
+use Rattle.vl_engine_model.specs.laws.RisingLaws.{map-filter}
+use Rattle.vl_engine_model_laws.specs.laws.Files.{all_filtered, all_weaker, or_false, true_false}
+use Rattle.vl_engine_model_laws.specs.laws.Steps.{all_rising}
+use Rattle.vl_engine_model_laws.specs.laws.Stock.{head_least}
 use Rattle.vl_stats.specs.Live.{AreOf}
 use Rattle.vl_stats.specs.Tallies.{capped, lengths_of, share_by, stat_by}
 use Rattle.vl_stats.specs.laws.TallyLaws.{none_pass, rising-filter}

@@ -11,29 +11,29 @@ use Rattle.vl_model.specs.History.{History}
 use Rattle.vl_model.specs.Limits.{max_level}
 use Rattle.vl_model.specs.Winners.{Logs}
 use Rattle.vl_model.specs.declared.log_frame.LogFrame.{LogFrame}
-use Rattle.vl_layout.specs.Garbage.{pointed_bytes, stat_of}
-use Rattle.vl_layout.specs.Jobs.{Made}
-use Rattle.vl_layout.specs.Levels.{in_front, is_among}
-use Rattle.vl_layout.specs.OpenJobs.{IsFitted, IsIdle, IsRoomy}
-use Rattle.vl_layout.specs.Ruling.{Ruling, StepAnswer, Stepped, has_no_number, has_no_version}
-use Rattle.vl_layout.specs.Rulings.Flush.{covered_by, flush_of, flush_ruling, flush_unless, flushed, flushed_table}
-use Rattle.vl_layout.specs.Rulings.Install.{InstallAnswer, Installed, install_checked, install_ruling, install_unless}
-use Rattle.vl_layout.specs.Rulings.Install.{installed, moved_since, put_in, race}
-use Rattle.vl_layout.specs.Rulings.Rotate.{rotate_of, rotate_ruling, rotate_unless, rotated}
-use Rattle.vl_layout.specs.Rulings.Stats.{segments, told}
-use Rattle.vl_layout.specs.Sources.{but_oldest, oldest, rising, tables}
-use Rattle.vl_layout.specs.Stock.{IsFalling}
-use Rattle.vl_layout.specs.Tidy.{IsTidy, sealed}
-use Rattle.vl_layout.specs.declared.file_name.FileName.{FileName}
-use Rattle.vl_layout.specs.declared.job.Job.{Job}
-use Rattle.vl_layout.specs.declared.job.OpenJob.{OpenJob}
-use Rattle.vl_layout.specs.declared.job.Target.{Target}
-use Rattle.vl_layout.specs.declared.job.Target.TheVariants.{Level, InPlace}
-use Rattle.vl_layout.specs.declared.layout.Layout.{Layout}
-use Rattle.vl_layout.specs.declared.segment.Segment.{Segment}
-use Rattle.vl_layout.specs.declared.table.Table.{Table}
-use Rattle.vl_layout_laws.specs.laws.LiveBytes.{live-flushed, live-installed_level, live-installed_in_place}
-use Rattle.vl_layout_laws.specs.laws.TidyLogs.{sealed_same}
+use Rattle.vl_engine_model.specs.Garbage.{pointed_bytes, stat_of}
+use Rattle.vl_engine_model.specs.Jobs.{Made}
+use Rattle.vl_engine_model.specs.Levels.{in_front, is_among}
+use Rattle.vl_engine_model.specs.OpenJobs.{IsFitted, IsIdle, IsRoomy}
+use Rattle.vl_engine_model.specs.Ruling.{Ruling, StepAnswer, Stepped, has_no_number, has_no_version}
+use Rattle.vl_engine_model.specs.Rulings.Flush.{covered_by, flush_of, flush_ruling, flush_unless, flushed, flushed_table}
+use Rattle.vl_engine_model.specs.Rulings.Install.{InstallAnswer, Installed, install_checked, install_ruling, install_unless}
+use Rattle.vl_engine_model.specs.Rulings.Install.{installed, moved_since, put_in, race}
+use Rattle.vl_engine_model.specs.Rulings.Rotate.{rotate_of, rotate_ruling, rotate_unless, rotated}
+use Rattle.vl_engine_model.specs.Rulings.Stats.{segments, told}
+use Rattle.vl_engine_model.specs.Sources.{but_oldest, oldest, rising, tables}
+use Rattle.vl_engine_model.specs.Stock.{IsFalling}
+use Rattle.vl_engine_model.specs.Tidy.{IsTidy, sealed}
+use Rattle.vl_engine_model.specs.declared.file_name.FileName.{FileName}
+use Rattle.vl_engine_model.specs.declared.job.Job.{Job}
+use Rattle.vl_engine_model.specs.declared.job.OpenJob.{OpenJob}
+use Rattle.vl_engine_model.specs.declared.job.Target.{Target}
+use Rattle.vl_engine_model.specs.declared.job.Target.TheVariants.{Level, InPlace}
+use Rattle.vl_engine_model.specs.declared.layout.Layout.{Layout}
+use Rattle.vl_engine_model.specs.declared.segment.Segment.{Segment}
+use Rattle.vl_engine_model.specs.declared.table.Table.{Table}
+use Rattle.vl_engine_model_laws.specs.laws.LiveBytes.{live-flushed, live-installed_level, live-installed_in_place}
+use Rattle.vl_engine_model_laws.specs.laws.TidyLogs.{sealed_same}
 use Rattle.vl_stats.specs.Live.{AreOf, IsSwitch}
 use Rattle.vl_stats.specs.Tallies.{IsOfLayout, IsTally, Tallied, length_of, lengths_of, stat_by, stays}
 use Rattle.vl_stats.specs.laws.TallyLaws.{falling_less, lengths_put, switched_logs}

@@ -10,18 +10,18 @@ use Rattle.std.specs.Ordering.{nat_cmp}
 use Rattle.std.specs.declared.cmp.Ordering.{Ordering}
 use Rattle.std.specs.declared.cmp.Ordering.TheVariants.{Less, Equal, Greater}
 use Rattle.vl_model.specs.Entries.{by_order}
-use Rattle.vl_layout.specs.Garbage.{live_bytes}
-use Rattle.vl_layout.specs.Ruling.{switched}
-use Rattle.vl_layout.specs.Sources.{but_oldest, head, put_segment, rising, tables}
-use Rattle.vl_layout.specs.Stock.{IsFalling}
-use Rattle.vl_layout.specs.Tidy.{sealed}
-use Rattle.vl_layout.specs.declared.layout.Layout.{Layout}
-use Rattle.vl_layout.specs.declared.segment.Segment.{Segment}
-use Rattle.vl_layout.specs.declared.table.Table.{Table}
-use Rattle.vl_layout.specs.laws.RisingLaws.{map-filter}
-use Rattle.vl_layout_laws.specs.laws.Files.{all_filtered, all_weaker, true_false}
-use Rattle.vl_layout_laws.specs.laws.Once.{IsUp}
-use Rattle.vl_layout_laws.specs.laws.Stock.{head_least}
+use Rattle.vl_engine_model.specs.Garbage.{live_bytes}
+use Rattle.vl_engine_model.specs.Ruling.{switched}
+use Rattle.vl_engine_model.specs.Sources.{but_oldest, head, put_segment, rising, tables}
+use Rattle.vl_engine_model.specs.Stock.{IsFalling}
+use Rattle.vl_engine_model.specs.Tidy.{sealed}
+use Rattle.vl_engine_model.specs.declared.layout.Layout.{Layout}
+use Rattle.vl_engine_model.specs.declared.segment.Segment.{Segment}
+use Rattle.vl_engine_model.specs.declared.table.Table.{Table}
+use Rattle.vl_engine_model.specs.laws.RisingLaws.{map-filter}
+use Rattle.vl_engine_model_laws.specs.laws.Files.{all_filtered, all_weaker, true_false}
+use Rattle.vl_engine_model_laws.specs.laws.Once.{IsUp}
+use Rattle.vl_engine_model_laws.specs.laws.Stock.{head_least}
 use Rattle.vl_stats.specs.Tallies.{IsOfLayout, lengths_of, stays}
 
 -- ---- a log more

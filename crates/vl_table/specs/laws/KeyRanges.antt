@@ -11,8 +11,8 @@ use Rattle.vl_model.specs.Entries.{entry_cmp}
 use Rattle.vl_model.specs.Keys.{key_cmp}
 use Rattle.vl_model.specs.Winners.{exact, newest_of, only_if, winner}
 use Rattle.vl_model.specs.declared.entry.Entry.{Entry}
-use Rattle.vl_block.specs.Cutting.{first_key, last_key}
-use Rattle.vl_run.specs.laws.OrderLaws.{IsRising}
+use Rattle.vl_model.specs.Cutting.{first_key, last_key}
+use Rattle.vl_model.specs.laws.OrderLaws.{IsRising}
 
 -- ---- the order of keys
 

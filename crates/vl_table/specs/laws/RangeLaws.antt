@@ -11,13 +11,13 @@ use Rattle.vl_filter.specs.laws.HeldLaws.{holds_all}
 use Rattle.vl_model.specs.Keys.{key_cmp}
 use Rattle.vl_model.specs.laws.WinnerLaws.{same_key}
 use Rattle.vl_model.specs.declared.entry.Entry.{Entry}
-use Rattle.vl_block.specs.Bytes.{filter_bits}
-use Rattle.vl_block.specs.Cutting.{first_key, keys_of, last_key, with_key}
-use Rattle.vl_block.specs.Footer.{Foot}
-use Rattle.vl_block.specs.Shapes.{IsShapeOf}
-use Rattle.vl_block.specs.declared.shape.TableShape.{TableShape}
-use Rattle.vl_block.specs.Formats.{has_filter}
-use Rattle.vl_run.specs.laws.OrderLaws.{IsRising, rising}
+use Rattle.vl_table.specs.body.Bytes.{filter_bits}
+use Rattle.vl_model.specs.Cutting.{first_key, keys_of, last_key, with_key}
+use Rattle.vl_table.specs.body.Footer.{Foot}
+use Rattle.vl_table.specs.body.Shapes.{IsShapeOf}
+use Rattle.vl_table.specs.declared.body.shape.TableShape.{TableShape}
+use Rattle.vl_model.specs.Formats.{has_filter}
+use Rattle.vl_model.specs.laws.OrderLaws.{IsRising, rising}
 use Rattle.vl_table.specs.MayHold.{is_in_range, may_hold}
 use Rattle.vl_table.specs.laws.KeyRanges.{HasNone, all_above, all_below, all_map, none_above, none_below}
 

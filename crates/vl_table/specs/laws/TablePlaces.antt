@@ -9,13 +9,13 @@ use Rattle.vl_frame.specs.Frame.{frame_bytes}
 use Rattle.vl_frame.specs.declared.kinds.FrameKind.TheVariants as kinds
 use Rattle.vl_disk.specs.DiskState.{bytes_at}
 use Rattle.vl_model.specs.declared.entry.Entry.{Entry}
-use Rattle.vl_block.specs.Cutting.{block_frame_length, filter_frame_length, index_frame_length, last_key}
-use Rattle.vl_block.specs.Blocks.{block_body}
-use Rattle.vl_block.specs.declared.index.BlockPlace.{BlockPlace}
-use Rattle.vl_block.specs.Bytes.{block_places, blocks_bytes, file_bytes, filter_bytes, filter_place, footer_bytes}
-use Rattle.vl_block.specs.Bytes.{footer_place, index_bytes, index_place, table_header}
-use Rattle.vl_block.specs.laws.Places.{blocks-split}
-use Rattle.vl_block.specs.laws.Lengths.{length-block, length-blocks, length-filter_frame, length-index}
+use Rattle.vl_model.specs.Cutting.{block_frame_length, filter_frame_length, index_frame_length, last_key}
+use Rattle.vl_table.specs.body.Blocks.{block_body}
+use Rattle.vl_table.specs.declared.body.index.BlockPlace.{BlockPlace}
+use Rattle.vl_table.specs.body.Bytes.{block_places, blocks_bytes, file_bytes, filter_bytes, filter_place, footer_bytes}
+use Rattle.vl_table.specs.body.Bytes.{footer_place, index_bytes, index_place, table_header}
+use Rattle.vl_table.specs.laws.Places.{blocks-split}
+use Rattle.vl_table.specs.laws.Lengths.{length-block, length-blocks, length-filter_frame, length-index}
 
 -- what stands behind the index
 abbrev pub behind_index : ℕ → ℕ → List Entry → List (List Entry) → List ℕ

@@ -7,20 +7,20 @@ use Rattle.vl_frame.specs.laws.Laws.{length-frame_bytes, one_frame}
 use Rattle.vl_frame.specs.declared.kinds.FileKind.TheVariants as files
 use Rattle.vl_frame.specs.declared.kinds.FrameKind.TheVariants as kinds
 use Rattle.vl_model.specs.declared.entry.Entry.{Entry}
-use Rattle.vl_block.specs.Cutting.{blocks, longest_body}
-use Rattle.vl_block.specs.Blocks.{IsBlock, SpellsBlock, block_body}
-use Rattle.vl_block.specs.laws.BlockLaws.{one_block}
-use Rattle.vl_block.specs.declared.index.BlockPlace.{BlockPlace}
-use Rattle.vl_block.specs.Bytes.{table_bytes, IsTable}
-use Rattle.vl_block.specs.laws.Lengths.{bodies-fit, length-block}
+use Rattle.vl_model.specs.Cutting.{blocks, longest_body}
+use Rattle.vl_table.specs.body.Blocks.{IsBlock, SpellsBlock, block_body}
+use Rattle.vl_table.specs.laws.BlockLaws.{one_block}
+use Rattle.vl_table.specs.declared.body.index.BlockPlace.{BlockPlace}
+use Rattle.vl_table.specs.body.Bytes.{table_bytes, IsTable}
+use Rattle.vl_table.specs.laws.Lengths.{bodies-fit, length-block}
 use Rattle.vl_table.specs.Kept.{HasBlock, StandsBlock}
 use Rattle.vl_table.specs.Tables.{IsOf, number_of, shape_of}
 use Rattle.vl_table.specs.laws.TablePlaces.{BlockAt, block_at, block_bytes}
-use Rattle.vl_block.specs.laws.Places.{length-block_places}
+use Rattle.vl_table.specs.laws.Places.{length-block_places}
 use Rattle.vl_table.specs.declared.slot.BlockId.{BlockId}
 use Rattle.vl_table.specs.declared.slot.Slot.{Slot}
-use Rattle.vl_block.specs.Shapes.{IsShapeOf}
-use Rattle.vl_block.specs.declared.shape.TableShape.{TableShape}
+use Rattle.vl_table.specs.body.Shapes.{IsShapeOf}
+use Rattle.vl_table.specs.declared.body.shape.TableShape.{TableShape}
 use Rattle.vl_table.specs.declared.table.Table.{Table}
 use Rattle.vl_table.specs.Seeks.{IsBadBlock}
 

@@ -8,9 +8,9 @@ use Rattle.std.specs.declared.cmp.Ordering.TheVariants.{Less, Equal, Greater}
 use Rattle.std.proofs.Common.{refl, ap, sym, subst, ◌∙◌, append_assoc, arith, cond}
 use Rattle.vl_model.specs.Keys.{key_cmp}
 use Rattle.vl_model.specs.declared.entry.Entry.{Entry}
-use Rattle.vl_block.specs.Cutting.{joined}
-use Rattle.vl_run.specs.laws.OrderLaws.{all-append}
-use Rattle.vl_run.specs.Lookups.{IsParted}
+use Rattle.vl_model.specs.Cutting.{joined}
+use Rattle.vl_model.specs.laws.OrderLaws.{all-append}
+use Rattle.vl_model.specs.Lookups.{IsParted}
 use Rattle.vl_table.specs.Tables.{IsOf, number_of, shape_of}
 use Rattle.vl_table.specs.declared.table.Table.{Table}
 use Rattle.vl_table.specs.laws.KeyRanges.{HasNone, above_turned, all_above, all_map, below_turned, none_above, of_last, up_to_below}

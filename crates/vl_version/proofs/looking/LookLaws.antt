@@ -7,8 +7,8 @@ use Rattle.vl_model.specs.Keys.{key_cmp}
 use Rattle.vl_model.specs.Winners.{counts, exact, newest_of, only_if, winner}
 use Rattle.vl_model.specs.laws.WinnerLaws.{newest_of-assoc, winner-append}
 use Rattle.vl_model.specs.declared.entry.Entry.{Entry}
-use Rattle.vl_run.specs.laws.Exact.{exact-append}
-use Rattle.vl_block.specs.Bytes.{greatest_version}
+use Rattle.vl_model.specs.laws.Exact.{exact-append}
+use Rattle.vl_table.specs.body.Bytes.{greatest_version}
 use Rattle.vl_table.specs.laws.KeyRanges.{HasNone, exact-none, winner-none}
 use Rattle.vl_version.specs.declared.levels.look.Look.{Look}
 use Rattle.vl_version.specs.declared.levels.look.Look.TheVariants.{UpTo, Exactly}

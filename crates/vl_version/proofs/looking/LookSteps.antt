@@ -5,12 +5,12 @@ use Rattle.std.specs.List.{prefix_len}
 use Rattle.std.specs.Option.{option_map}
 use Rattle.std.proofs.Common.{refl, ap, sym, subst, ◌∙◌, append_assoc, append-nil, arith}
 use Rattle.vl_model.specs.declared.entry.Entry.{Entry}
-use Rattle.vl_block.specs.Bytes.{greatest_version, table_bytes}
-use Rattle.vl_block.specs.Cutting.{joined}
-use Rattle.vl_block.specs.Footer.{Foot}
-use Rattle.vl_block.specs.Founds.{found_of}
-use Rattle.vl_block.specs.declared.found.Found.{Found}
-use Rattle.vl_run.specs.Lookups.{IsParted}
+use Rattle.vl_table.specs.body.Bytes.{greatest_version, table_bytes}
+use Rattle.vl_model.specs.Cutting.{joined}
+use Rattle.vl_table.specs.body.Footer.{Foot}
+use Rattle.vl_table.specs.body.Founds.{found_of}
+use Rattle.vl_table.specs.declared.body.found.Found.{Found}
+use Rattle.vl_model.specs.Lookups.{IsParted}
 use Rattle.vl_disk.specs.Faults.{HasCause}
 use Rattle.vl_disk.specs.declared.name.Name.{Name}
 use Rattle.vl_table.specs.Answers.{Answers, Failed, IsAnswer}
@@ -18,8 +18,8 @@ use Rattle.vl_table.specs.MayHold.{may_hold}
 use Rattle.vl_table.specs.Seeks.{IsBadBlock}
 use Rattle.vl_table.specs.Tables.{IsOf, number_of, shape_of}
 use Rattle.vl_table.specs.laws.TrueBlocks.{no_bad_block}
-use Rattle.vl_table.specs.declared.fault.TableFault.{TableFault}
-use Rattle.vl_table.specs.declared.fault.TableFault.TheVariants.{NoMemory, Disk, Damaged}
+use Rattle.vl_disk.specs.declared.read_fault.ReadFault.{ReadFault}
+use Rattle.vl_disk.specs.declared.read_fault.ReadFault.TheVariants.{NoMemory, Disk, Damaged}
 use Rattle.vl_table.specs.declared.table.Table.{Table}
 use Rattle.vl_table.specs.OfTables.{AreOf}
 use Rattle.vl_version.specs.levels.LevelTables.{AreApart, ends_before}
@@ -34,7 +34,7 @@ no_failure : (now : ℕ) → HasCause now now ⊥
 no_failure now = record { later = omega arith; rose = λ failed. absurd failed; steady = λ steady. refl }
 
 module _ {H : Type 0} (bytes_of : H → Option (List ℕ)) where
-  moved : (good other : Option Found → Type 0) (bad : ℕ → Type 0) (r : Result (Option Found) TableFault)
+  moved : (good other : Option Found → Type 0) (bad : ℕ → Type 0) (r : Result (Option Found) ReadFault)
       → ((x : Option Found) → good x → other x)
       → ((place : ℕ) → bad place → ⊥) → IsAnswer good bad r → IsAnswer other (λ place. ⊥) r
   moved good other bad (Ok x) f g is = f x is
@@ -42,7 +42,7 @@ module _ {H : Type 0} (bytes_of : H → Option (List ℕ)) where
   moved good other bad (Err (Disk name)) f g is = tt
   moved good other bad (Err (Damaged name place)) f g is = g place is
 
-  fault_moved : (good other : Option Found → Type 0) (e : TableFault) → IsAnswer good (λ place. ⊥) (Err e)
+  fault_moved : (good other : Option Found → Type 0) (e : ReadFault) → IsAnswer good (λ place. ⊥) (Err e)
       → IsAnswer other (λ place. ⊥) (Err e)
   fault_moved good other NoMemory is = tt
   fault_moved good other (Disk name) is = tt
@@ -99,14 +99,14 @@ module _ {H : Type 0} (bytes_of : H → Option (List ℕ)) where
     why = f.why;
   }
 
-  names-front : (ts us : List (Table H)) (key : List ℕ) (r : Result (Option Found) TableFault)
+  names-front : (ts us : List (Table H)) (key : List ℕ) (r : Result (Option Found) ReadFault)
       → NamesAsked bytes_of ts key r → NamesAsked bytes_of (ts ++ us) key r
   names-front ts us key (Ok found) f = tt
   names-front ts us key (Err NoMemory) f = tt
   names-front ts us key (Err (Disk name)) f = fault-front ts us key name (λ t. Unit {0}) f
   names-front ts us key (Err (Damaged name place)) f = fault-front ts us key name (IsDamagedAt bytes_of place) f
 
-  names-back : (ts us : List (Table H)) (key : List ℕ) (r : Result (Option Found) TableFault)
+  names-back : (ts us : List (Table H)) (key : List ℕ) (r : Result (Option Found) ReadFault)
       → NamesAsked bytes_of us key r → NamesAsked bytes_of (ts ++ us) key r
   names-back ts us key (Ok found) f = tt
   names-back ts us key (Err NoMemory) f = tt
@@ -126,7 +126,7 @@ module _ {H : Type 0} (bytes_of : H → Option (List ℕ)) where
 
     -- behind what these tables gave others are asked
     pub goes_on : (ts us : List (Table H)) (A B C : Type 0) (best : Option Entry) (before mid now : ℕ)
-        (x : Option Found) (r : Result (Option Found) TableFault)
+        (x : Option Found) (r : Result (Option Found) ReadFault)
         → (C → A) → (C → B) → LooksOn bytes_of ts A look key best before mid (Ok x)
         → LooksOn bytes_of us B look key (option_map (found_of key) x) mid now r → LooksOn bytes_of (ts ++ us) C look key best before now r
     goes_on ts us A B C best before mid now x r f g first second = record {
@@ -144,7 +144,7 @@ module _ {H : Type 0} (bytes_of : H → Option (List ℕ)) where
     }
 
     -- where one fails none behind it is asked
-    pub fails_on : (ts more : List (Table H)) (A C : Type 0) (best : Option Entry) (before now : ℕ) (e : TableFault) → (C → A)
+    pub fails_on : (ts more : List (Table H)) (A C : Type 0) (best : Option Entry) (before now : ℕ) (e : ReadFault) → (C → A)
         → LooksOn bytes_of ts A look key best before now (Err e) → LooksOn bytes_of (ts ++ more) C look key best before now (Err e)
     fails_on ts more A C best before now e f one = record {
       cause = one.cause;
@@ -157,7 +157,7 @@ module _ {H : Type 0} (bytes_of : H → Option (List ℕ)) where
     }
 
     -- where nothing was found before
-    pub looked_up : (ts : List (Table H)) (Lawful : Type 0) (before now : ℕ) (r s : Result (Option Found) TableFault) → s ≡ r
+    pub looked_up : (ts : List (Table H)) (Lawful : Type 0) (before now : ℕ) (r s : Result (Option Found) ReadFault) → s ≡ r
         → LooksOn bytes_of ts Lawful look key None before now r → LookedUp bytes_of ts Lawful (sought look key) key before now s
     looked_up ts Lawful before now r s same on = subst (LookedUp bytes_of ts Lawful (sought look key) key before now) (sym same) (record {
       cause = on.cause;
@@ -189,10 +189,10 @@ module _ {H : Type 0} (bytes_of : H → Option (List ℕ)) where
           by (es ∷ fs ∷ ess) are = absurd are.1
 
       -- it is asked
-      abbrev pub IsUnread : Result (Option Found) TableFault → Type 0
+      abbrev pub IsUnread : Result (Option Found) ReadFault → Type 0
       IsUnread r = may_hold key (shape_of t) ≡ false → r ≡ Ok None
 
-      asked : (r : Result (Option Found) TableFault) (e : TableFault) → r ≡ Err e → IsUnread r → IsAsked bytes_of (t ∷ []) key t
+      asked : (r : Result (Option Found) ReadFault) (e : ReadFault) → r ≡ Err e → IsUnread r → IsAsked bytes_of (t ∷ []) key t
       asked r e fault unread = record { front = []; back = []; among = refl; holds = by (may_hold key (shape_of t)) refl }
         where
           by : (b : Bool) → may_hold key (shape_of t) ≡ b → may_hold key (shape_of t) ≡ true
@@ -217,7 +217,7 @@ module _ {H : Type 0} (bytes_of : H → Option (List ℕ)) where
           by (es ∷ fs ∷ ess) are = absurd are.1
 
       -- or fails
-      pub asks_in_vain : (Lawful : Type 0) (before now : ℕ) (e : TableFault) → IsUnread (Err e)
+      pub asks_in_vain : (Lawful : Type 0) (before now : ℕ) (e : ReadFault) → IsUnread (Err e)
           → Answers {T = Option Found} before now (number_of t) (bytes_of t.held)
           (λ bytes found. (es : List Entry) → IsOf bytes_of t es → option_map (found_of key) found ≡ sought look key es)
           (IsBadBlock (shape_of t)) (Err e)
@@ -225,7 +225,7 @@ module _ {H : Type 0} (bytes_of : H → Option (List ℕ)) where
       asks_in_vain Lawful before now e unread a = record
           { cause = a.cause; fault = named e unread a; answer = λ lawful ess are. by ess are }
         where
-          named : (e : TableFault) → IsUnread (Err e)
+          named : (e : ReadFault) → IsUnread (Err e)
               → Answers {T = Option Found} before now (number_of t) (bytes_of t.held)
               (λ bytes found. (es : List Entry) → IsOf bytes_of t es
               → option_map (found_of key) found ≡ sought look key es) (IsBadBlock (shape_of t)) (Err e)
@@ -241,7 +241,7 @@ module _ {H : Type 0} (bytes_of : H → Option (List ℕ)) where
                 why = a.answer;
               }
 
-          fault : (e : TableFault) (bytes : List ℕ) (P Q : Option Found → Type 0) → ((place : ℕ) → IsBadBlock (shape_of t) bytes place → ⊥)
+          fault : (e : ReadFault) (bytes : List ℕ) (P Q : Option Found → Type 0) → ((place : ℕ) → IsBadBlock (shape_of t) bytes place → ⊥)
               → IsAnswer P (IsBadBlock (shape_of t) bytes) (Err e) → IsAnswer Q (λ place. ⊥) (Err e)
           fault NoMemory bytes P Q f is = tt
           fault (Disk name) bytes P Q f is = tt
@@ -276,7 +276,7 @@ module _ {H : Type 0} (bytes_of : H → Option (List ℕ)) where
 
     -- the first that doesn't is asked
     pub level_asks : (ts : List (Table H)) (t : Table H) (B : Type 0) (best : Option Entry) (before now at : ℕ)
-        (r : Result (Option Found) TableFault)
+        (r : Result (Option Found) ReadFault)
         → (IsParted (ends_before key) ts → at ≡ prefix_len (ends_before key) ts) → at < length ts → t ≡ get_or ts at t → (AreApart ts → B)
         → LooksOn bytes_of (t ∷ []) B look key best before now r → LooksOn bytes_of ts (AreApart ts) look key best before now r
     level_asks ts t B best before now at r first within is f one = record {

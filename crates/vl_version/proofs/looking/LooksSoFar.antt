@@ -3,12 +3,12 @@ use Rattle.std.specs.Prelude.{◌≡◌, ℕ, List, ◌++◌, Option, Result, Ok
 use Rattle.std.specs.Option.{option_map}
 use Rattle.std.proofs.Common.{sym, subst}
 use Rattle.vl_model.specs.declared.entry.Entry.{Entry}
-use Rattle.vl_block.specs.Founds.{found_of}
-use Rattle.vl_block.specs.declared.found.Found.{Found}
+use Rattle.vl_table.specs.body.Founds.{found_of}
+use Rattle.vl_table.specs.declared.body.found.Found.{Found}
 use Rattle.vl_table.specs.Kept.{Files}
 use Rattle.vl_table.specs.KeptBlocks.{AreKept}
 use Rattle.vl_table.specs.declared.block_reader.BlockReader.{BlockReader}
-use Rattle.vl_table.specs.declared.fault.TableFault.{TableFault}
+use Rattle.vl_disk.specs.declared.read_fault.ReadFault.{ReadFault}
 use Rattle.vl_table.specs.declared.table.Table.{Table}
 use Rattle.vl_version.specs.levels.LookedUp.{LooksInAll, LooksOn, LooksThrough}
 use Rattle.vl_version.specs.declared.levels.look.Look.{Look}
@@ -43,21 +43,21 @@ module _ {H R : Type 0} (bytes_of : H → Option (List ℕ)) (files : Files) (A 
   }
 
   -- there it fails
-  pub fails_there : (more all : List (Table H)) (B : Type 0) (e : TableFault) (r : Result (Option Found) TableFault)
+  pub fails_there : (more all : List (Table H)) (B : Type 0) (e : ReadFault) (r : Result (Option Found) ReadFault)
       → all ≡ (ts ++ us) ++ more → r ≡ Err e → (A → B)
       → LooksOn bytes_of us B look key (option_map (found_of key) best) mid now (Err e) → LooksOn bytes_of all A look key first before now r
   fails_there more all B e r parts is f answer =
       subst (λ (l : List (Table H)). LooksOn bytes_of l A look key first before now r) (sym parts)
-      (subst (λ (s : Result (Option Found) TableFault). LooksOn bytes_of ((ts ++ us) ++ more) A look key first before now s) (sym is)
+      (subst (λ (s : Result (Option Found) ReadFault). LooksOn bytes_of ((ts ++ us) ++ more) A look key first before now s) (sym is)
       (fails_on bytes_of look key (ts ++ us) more A A first before now e (λ a. a)
       (goes_on bytes_of look key ts us A B A first before mid now best (Err e) (λ a. a) f so.answer answer)))
 
   -- and that was the first table on which it did
-  pub stops_there : (more all : List (Table H)) (M : Type 0) (e : TableFault) (r : Result (Option Found) TableFault)
+  pub stops_there : (more all : List (Table H)) (M : Type 0) (e : ReadFault) (r : Result (Option Found) ReadFault)
       → all ≡ (ts ++ us) ++ more → r ≡ Err e → (L → M)
       → (M → LooksInAll bytes_of look key (option_map (found_of key) best) us (Err e)) → L → LooksInAll bytes_of look key first all r
   stops_there more all M e r parts is f looks laid =
       subst (λ (l : List (Table H)). LooksInAll bytes_of look key first l r) (sym parts)
-      (subst (λ (s : Result (Option Found) TableFault). LooksInAll bytes_of look key first ((ts ++ us) ++ more) s) (sym is)
+      (subst (λ (s : Result (Option Found) ReadFault). LooksInAll bytes_of look key first ((ts ++ us) ++ more) s) (sym is)
       (in_all-front bytes_of look key (ts ++ us) more first e
       (in_all-append bytes_of look key ts us first (option_map (found_of key) best) (Err e) (so.looks laid) (looks (f laid)))))

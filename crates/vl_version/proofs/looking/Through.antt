@@ -10,17 +10,17 @@ use Rattle.std.specs.declared.cmp.Ordering.TheVariants.{Less, Equal, Greater}
 use Rattle.std.proofs.Common.{refl, ap, sym, subst, ◌∙◌, append_assoc, arith, cond}
 use Rattle.vl_model.specs.Keys.{key_cmp}
 use Rattle.vl_model.specs.declared.entry.Entry.{Entry}
-use Rattle.vl_run.specs.Lookups.{IsParted}
-use Rattle.vl_block.specs.Founds.{found_of}
-use Rattle.vl_block.specs.declared.found.Found.{Found}
+use Rattle.vl_model.specs.Lookups.{IsParted}
+use Rattle.vl_table.specs.body.Founds.{found_of}
+use Rattle.vl_table.specs.declared.body.found.Found.{Found}
 use Rattle.vl_disk.specs.declared.name.Name.{Name}
 use Rattle.vl_table.specs.Answers.{Answers}
 use Rattle.vl_table.specs.MayHold.{may_hold}
 use Rattle.vl_table.specs.Meets.{LooksIn}
 use Rattle.vl_table.specs.Seeks.{IsBadBlock}
 use Rattle.vl_table.specs.Tables.{number_of, shape_of}
-use Rattle.vl_table.specs.declared.fault.TableFault.{TableFault}
-use Rattle.vl_table.specs.declared.fault.TableFault.TheVariants.{NoMemory, Disk, Damaged}
+use Rattle.vl_disk.specs.declared.read_fault.ReadFault.{ReadFault}
+use Rattle.vl_disk.specs.declared.read_fault.ReadFault.TheVariants.{NoMemory, Disk, Damaged}
 use Rattle.vl_table.specs.declared.table.Table.{Table}
 use Rattle.vl_table.specs.laws.KeyRanges.{above_turned, all_map, below_turned, below_up_to, up_to_below}
 use Rattle.vl_version.specs.levels.LevelTables.{AreApart, AreRanged, ends_before, footer_of}
@@ -65,7 +65,7 @@ module _ {H : Type 0} (bytes_of : H → Option (List ℕ)) (look : Look) (key : 
   unheld best t wanted refused = both_tests (is_wanted look best (footer_of t).greatest) (may_hold key (shape_of t)) wanted refused
 
   -- it fails at one that is wanted, and was read
-  pub stops_here : (best : Option Entry) (t : Table H) (before now : ℕ) (good : List ℕ → Option Found → Type 0) (e : TableFault)
+  pub stops_here : (best : Option Entry) (t : Table H) (before now : ℕ) (good : List ℕ → Option Found → Type 0) (e : ReadFault)
       → is_wanted look best (footer_of t).greatest ≡ true → (may_hold key (shape_of t) ≡ false → ⊥)
       → Answers {T = Option Found} before now (number_of t) (bytes_of t.held) good (IsBadBlock (shape_of t)) (Err e)
       → LooksInAll bytes_of look key best (t ∷ []) (Err e)
@@ -150,7 +150,7 @@ module _ {H : Type 0} (bytes_of : H → Option (List ℕ)) (look : Look) (key : 
     why = s.why;
   }
 
-  pub in_all-append : (ts us : List (Table H)) (best mid : Option Entry) (r : Result (Option Found) TableFault)
+  pub in_all-append : (ts us : List (Table H)) (best mid : Option Entry) (r : Result (Option Found) ReadFault)
       → LooksThrough bytes_of look key best ts mid → LooksInAll bytes_of look key mid us r → LooksInAll bytes_of look key best (ts ++ us) r
   in_all-append ts us best mid (Ok y) first second = through-append ts us best mid (option_map (found_of key) y) first second
   in_all-append ts us best mid (Err NoMemory) first second = tt
@@ -158,7 +158,7 @@ module _ {H : Type 0} (bytes_of : H → Option (List ℕ)) (look : Look) (key : 
   in_all-append ts us best mid (Err (Damaged name place)) first second = stops-back ts us best mid name
       (IsDamagedAt bytes_of place) first second
 
-  pub in_all-front : (ts us : List (Table H)) (best : Option Entry) (e : TableFault) → LooksInAll bytes_of look key best ts (Err e)
+  pub in_all-front : (ts us : List (Table H)) (best : Option Entry) (e : ReadFault) → LooksInAll bytes_of look key best ts (Err e)
       → LooksInAll bytes_of look key best (ts ++ us) (Err e)
   in_all-front ts us best NoMemory stops = tt
   in_all-front ts us best (Disk name) stops = stops-front ts us best name (λ t. Unit {0}) stops
@@ -287,7 +287,7 @@ module _ {H : Type 0} (bytes_of : H → Option (List ℕ)) (look : Look) (key : 
       by later false ends = refl
 
   -- where the one at a position was looked in, the level was
-  pub reaches : (ts : List (Table H)) (t : Table H) (best : Option Entry) (at : ℕ) (r : Result (Option Found) TableFault)
+  pub reaches : (ts : List (Table H)) (t : Table H) (best : Option Entry) (at : ℕ) (r : Result (Option Found) ReadFault)
       → at ≡ prefix_len (ends_before key) ts → at < length ts → t ≡ get_or ts at t → AreApart ts → AreRanged ts
       → LooksInAll bytes_of look key best (t ∷ []) r → LooksInAll bytes_of look key best ts r
   reaches ts t best at (Ok x) first within is apart ranged looks =

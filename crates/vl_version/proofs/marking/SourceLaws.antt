@@ -8,17 +8,17 @@ use Rattle.std.proofs.Common.{refl, ap, sym, ◌∙◌, arith, cond}
 use Rattle.std.proofs.lemmas.Bool.Decides.{nat_tests}
 use Rattle.std.proofs.lemmas.List.Folds.{list_any-append}
 use Rattle.vl_merge.specs.Marked.{Marked, all_of, is_first_outside, outside_of, unless_marked}
-use Rattle.vl_merge.specs.Merging.{has_older}
+use Rattle.vl_model.specs.Merging.{has_older}
 use Rattle.vl_model.specs.Entries.{is_at}
 use Rattle.vl_model.specs.Keys.{key_cmp}
 use Rattle.vl_model.specs.Winners.{counts, exact, newest_of, only_if, winner}
 use Rattle.vl_model.specs.declared.entry.Entry.{Entry}
-use Rattle.vl_block.specs.Cutting.{joined}
-use Rattle.vl_run.specs.laws.Exact.{exact-append}
-use Rattle.vl_run.specs.Lookups.{or_else}
+use Rattle.vl_model.specs.Cutting.{joined}
+use Rattle.vl_model.specs.laws.Exact.{exact-append}
+use Rattle.vl_model.specs.Lookups.{or_else}
 use Rattle.vl_table.specs.OfTables.{AreOf}
 use Rattle.vl_table.specs.declared.block_reader.BlockReader.{BlockReader}
-use Rattle.vl_table.specs.declared.fault.TableFault.{TableFault}
+use Rattle.vl_disk.specs.declared.read_fault.ReadFault.{ReadFault}
 use Rattle.vl_table.specs.declared.table.Table.{Table}
 use Rattle.vl_version.specs.Bases.{is_input, marked_as, marked_sources, marked_tables}
 use Rattle.vl_version.specs.Sources.{in_memory, tables_in}
@@ -279,7 +279,7 @@ module _ {H R : Type 0} (bytes_of : H → Option (List ℕ)) (faults : R → ℕ
         says_too bytes_of faults ts L (Marks asked) (Counts number) old new m b
         (λ ess marks. is ∙ ap is_some marks ∙ first-counts asked outside number look ts ess) told
 
-    pub outside_failed : (number : ℕ) (e : TableFault) (r : Result Bool TableFault) → r ≡ Err e
+    pub outside_failed : (number : ℕ) (e : ReadFault) (r : Result Bool ReadFault) → r ≡ Err e
         → TellsFirst bytes_of faults asked ts L old new (Err e) → Tells bytes_of faults ts L (Counts number) old new r
     outside_failed number e r is told = fails_so bytes_of faults ts L (Marks asked) (Counts number) old new e r is told
 
@@ -294,7 +294,7 @@ module _ {H R : Type 0} (bytes_of : H → Option (List ℕ)) (faults : R → ℕ
         says_too bytes_of faults ts L (Marks asked) (Says asked.inputs.now asked.key.now version) old new m false
         (λ ess marks. sym (none-outside asked version look outside ts ess (sym marks ∙ none))) told
 
-    pub ask_failed : (e : TableFault) (r : Result Bool TableFault) → r ≡ Err e → TellsFirst bytes_of faults asked ts L old new (Err e)
+    pub ask_failed : (e : ReadFault) (r : Result Bool ReadFault) → r ≡ Err e → TellsFirst bytes_of faults asked ts L old new (Err e)
         → Tells bytes_of faults ts L (Says asked.inputs.now asked.key.now version) old new r
     ask_failed e r is told =
         fails_so bytes_of faults ts L (Marks asked) (Says asked.inputs.now asked.key.now version) old new e r is told
@@ -313,7 +313,7 @@ module _ {H R : Type 0} (bytes_of : H → Option (List ℕ)) (faults : R → ℕ
           (λ ess marks. is ∙ ap mark_says marks.1 ∙ sym (first-says asked version look all ts ess))
           (asks_next bytes_of faults ts L (Marks before) (Marks asked) first old new x (Ok m) so_far told)
 
-      pub all_failed : (e : TableFault) (r : Result Bool TableFault) → r ≡ Err e → TellsFirst bytes_of faults asked ts L old new (Err e)
+      pub all_failed : (e : ReadFault) (r : Result Bool ReadFault) → r ≡ Err e → TellsFirst bytes_of faults asked ts L old new (Err e)
           → Tells bytes_of faults ts L (Says asked.inputs.now asked.key.now version) first new r
       all_failed e r is told =
           fails_so bytes_of faults ts L Both (Says asked.inputs.now asked.key.now version) first new e r is

@@ -4,20 +4,20 @@ use Rattle.std.specs.Prelude.{get_or, take, drop, IfErr, IfOk, Option, Some, Non
 use Rattle.std.specs.List.{prefix_len, slice_get}
 use Rattle.std.specs.Option.{option_map}
 use Rattle.std.proofs.Common.{refl, ap, sym, subst, ◌∙◌, arith, append-nil, cond}
-use Rattle.vl_block.specs.Cutting.{joined}
-use Rattle.vl_block.specs.Founds.{found_of}
-use Rattle.vl_block.specs.declared.found.Found.{Found}
+use Rattle.vl_model.specs.Cutting.{joined}
+use Rattle.vl_table.specs.body.Founds.{found_of}
+use Rattle.vl_table.specs.declared.body.found.Found.{Found}
 use Rattle.vl_disk.specs.Faults.{HasCause}
 use Rattle.vl_model.specs.declared.entry.Entry.{Entry}
-use Rattle.vl_run.specs.Lookups.{IsParted}
+use Rattle.vl_model.specs.Lookups.{IsParted}
 use Rattle.vl_table.specs.Answers.{Failed}
 use Rattle.vl_table.specs.CursorParts.{MayFailOn}
 use Rattle.vl_table.specs.Kept.{Files}
 use Rattle.vl_table.specs.KeptBlocks.{AreKept, ReadsOf}
 use Rattle.vl_table.specs.OfTables.{AreOf}
 use Rattle.vl_table.specs.declared.block_reader.BlockReader.{BlockReader}
-use Rattle.vl_table.specs.declared.fault.TableFault.{TableFault}
-use Rattle.vl_table.specs.declared.fault.TableFault.TheVariants.{NoMemory, Disk, Damaged}
+use Rattle.vl_disk.specs.declared.read_fault.ReadFault.{ReadFault}
+use Rattle.vl_disk.specs.declared.read_fault.ReadFault.TheVariants.{NoMemory, Disk, Damaged}
 use Rattle.vl_table.specs.declared.table.Table.{Table}
 use Rattle.vl_version.specs.Bases.{is_input}
 use Rattle.vl_version.specs.levels.LevelTables.{AreApart, ends_before}
@@ -56,12 +56,12 @@ module _ {H : Type 0} (bytes_of : H → Option (List ℕ)) where
   -- ---- faults
 
   -- a fault of one of some tables is one of more tables
-  pub fails-front : (ts us : List (Table H)) (e : TableFault) → MayFailOn bytes_of ts e → MayFailOn bytes_of (ts ++ us) e
+  pub fails-front : (ts us : List (Table H)) (e : ReadFault) → MayFailOn bytes_of ts e → MayFailOn bytes_of (ts ++ us) e
   fails-front ts us NoMemory fails = tt
   fails-front ts us (Disk name) fails = (fails.0, fails.1, get-front ts us fails.0 fails.1 fails.2, fails.3)
   fails-front ts us (Damaged name place) fails = (fails.0, fails.1, get-front ts us fails.0 fails.1 fails.2, fails.3, fails.4)
 
-  pub fails-back : (ts us : List (Table H)) (e : TableFault) → MayFailOn bytes_of us e → MayFailOn bytes_of (ts ++ us) e
+  pub fails-back : (ts us : List (Table H)) (e : ReadFault) → MayFailOn bytes_of us e → MayFailOn bytes_of (ts ++ us) e
   fails-back ts us NoMemory fails = tt
   fails-back ts us (Disk name) fails = (length ts + fails.0, fails.1, get-back ts us fails.0 fails.1 fails.2, fails.3)
   fails-back ts us (Damaged name place) fails =
@@ -72,7 +72,7 @@ module _ {H : Type 0} (bytes_of : H → Option (List ℕ)) where
   get-middle (u ∷ front) back t = get-middle front back t
 
   -- a fault that names a table that was asked is one of these tables
-  pub names_fail : (ts : List (Table H)) (key : List ℕ) (e : TableFault) → NamesAsked bytes_of ts key (Err e) → MayFailOn bytes_of ts e
+  pub names_fail : (ts : List (Table H)) (key : List ℕ) (e : ReadFault) → NamesAsked bytes_of ts key (Err e) → MayFailOn bytes_of ts e
   names_fail ts key NoMemory names = tt
   names_fail ts key (Disk name) names = (
     length names.asked.front,
@@ -96,12 +96,12 @@ module _ {H : Type 0} (bytes_of : H → Option (List ℕ)) where
     module _ {S U : Type 0} (ts : List (Table H)) (L : Type 0) (good : List (List Entry) → S → Type 0)
         (other : List (List Entry) → U → Type 0) (old new : BlockReader R) where
       -- what was asked failed
-      pub fails_alike : (e : TableFault) → Tells bytes_of faults ts L good old new (Err e)
+      pub fails_alike : (e : ReadFault) → Tells bytes_of faults ts L good old new (Err e)
           → Tells bytes_of faults ts L other old new (Err e)
       fails_alike e told = record
           { cause = by e told.cause; kept = told.kept; fault = told.fault; answer = λ files reads lawful ess are. tt }
         where
-          by : (e : TableFault) → HasCause (faults old.reader) (faults new.reader) (Failed {T = S} (Err e))
+          by : (e : ReadFault) → HasCause (faults old.reader) (faults new.reader) (Failed {T = S} (Err e))
               → HasCause (faults old.reader) (faults new.reader) (Failed {T = U} (Err e))
           by NoMemory cause = cause
           by (Disk name) cause = cause
@@ -117,14 +117,14 @@ module _ {H : Type 0} (bytes_of : H → Option (List ℕ)) where
         answer = λ files reads lawful ess are. says ess (told.answer files reads lawful ess are);
       }
 
-      pub fails_so : (e : TableFault) (r : Result U TableFault) → r ≡ Err e → Tells bytes_of faults ts L good old new (Err e)
+      pub fails_so : (e : ReadFault) (r : Result U ReadFault) → r ≡ Err e → Tells bytes_of faults ts L good old new (Err e)
           → Tells bytes_of faults ts L other old new r
-      fails_so e r is told = subst (λ (s : Result U TableFault). Tells bytes_of faults ts L other old new s) (sym is) (fails_alike e told)
+      fails_so e r is told = subst (λ (s : Result U ReadFault). Tells bytes_of faults ts L other old new s) (sym is) (fails_alike e told)
 
     module _ {S T : Type 0} (ts : List (Table H)) (L : Type 0) (good : List (List Entry) → S → Type 0)
         (next : List (List Entry) → T → Type 0) (old mid new : BlockReader R) where
       -- what is asked next
-      pub asks_next : (x : S) (r : Result T TableFault) → Tells bytes_of faults ts L good old mid (Ok x)
+      pub asks_next : (x : S) (r : Result T ReadFault) → Tells bytes_of faults ts L good old mid (Ok x)
           → Tells bytes_of faults ts L next mid new r
           → Tells bytes_of faults ts L (λ ess y. good ess x × next ess y) old new r
       asks_next x r first second = record {
@@ -136,7 +136,7 @@ module _ {H : Type 0} (bytes_of : H → Option (List ℕ)) where
             (second.answer files (record { kept = first.kept files reads; told = reads.told }) lawful ess are);
       }
         where
-          both : (P : Type 0) (Q : T → Type 0) (r : Result T TableFault) → P → IfOk r Q → IfOk r (λ y. P × Q y)
+          both : (P : Type 0) (Q : T → Type 0) (r : Result T ReadFault) → P → IfOk r Q → IfOk r (λ y. P × Q y)
           both P Q (Ok y) p q = (p, q)
           both P Q (Err e) p q = tt
 
@@ -154,7 +154,7 @@ module _ {H : Type 0} (bytes_of : H → Option (List ℕ)) where
 
       module _ (ts us : List (Table H)) (A B C : Type 0) (old mid new : BlockReader R) where
         -- where the first ones have no such entry the others are asked
-        pub goes_on : (r : Result (Option Bool) TableFault) → (C → A) → (C → B) → TellsFirst bytes_of faults asked ts A old mid (Ok None)
+        pub goes_on : (r : Result (Option Bool) ReadFault) → (C → A) → (C → B) → TellsFirst bytes_of faults asked ts A old mid (Ok None)
             → TellsFirst bytes_of faults asked us B mid new r → TellsFirst bytes_of faults asked (ts ++ us) C old new r
         goes_on r f g first second = record {
           cause = subst (λ (n : ℕ). HasCause n (faults new.reader) (Failed r)) (first.cause.steady (λ failed. failed)) second.cause;
@@ -174,17 +174,17 @@ module _ {H : Type 0} (bytes_of : H → Option (List ℕ)) where
               told = (read_back bytes_of files old ts us reads).told;
             }
 
-            fault : (r : Result (Option Bool) TableFault) → IfErr r (MayFailOn bytes_of us) → IfErr r (MayFailOn bytes_of (ts ++ us))
+            fault : (r : Result (Option Bool) ReadFault) → IfErr r (MayFailOn bytes_of us) → IfErr r (MayFailOn bytes_of (ts ++ us))
             fault (Ok m) fails = tt
             fault (Err e) fails = fails-back ts us e fails
 
-            answer : (m : Option Bool) (ess : List (List Entry)) (r : Result (Option Bool) TableFault) → first_mark asked (ts ++ us) ess ≡ m
+            answer : (m : Option Bool) (ess : List (List Entry)) (r : Result (Option Bool) ReadFault) → first_mark asked (ts ++ us) ess ≡ m
                 → IfOk r (λ found. found ≡ m) → IfOk r (λ found. found ≡ first_mark asked (ts ++ us) ess)
             answer m ess (Ok found) is told = told ∙ sym is
             answer m ess (Err e) is told = tt
 
         -- where they have one, or fail, the others aren't asked
-        pub stops : (r : Result (Option Bool) TableFault) → (C → A) → ((r ≡ Ok None) → ⊥) → TellsFirst bytes_of faults asked ts A old new r
+        pub stops : (r : Result (Option Bool) ReadFault) → (C → A) → ((r ≡ Ok None) → ⊥) → TellsFirst bytes_of faults asked ts A old new r
             → TellsFirst bytes_of faults asked (ts ++ us) C old new r
         stops r f some first = record {
           cause = first.cause;
@@ -196,12 +196,12 @@ module _ {H : Type 0} (bytes_of : H → Option (List ℕ)) where
               (first.answer files (read_front bytes_of files old ts us reads) (f lawful) parts.front parts.are);
         }
           where
-            fault : (r : Result (Option Bool) TableFault) → IfErr r (MayFailOn bytes_of ts) → IfErr r (MayFailOn bytes_of (ts ++ us))
+            fault : (r : Result (Option Bool) ReadFault) → IfErr r (MayFailOn bytes_of ts) → IfErr r (MayFailOn bytes_of (ts ++ us))
             fault (Ok m) fails = tt
             fault (Err e) fails = fails-front ts us e fails
 
             answer : (m : Option Bool) (ess : List (List Entry)) (later : Option Bool)
-                (r : Result (Option Bool) TableFault) → ((r ≡ Ok None) → ⊥)
+                (r : Result (Option Bool) ReadFault) → ((r ≡ Ok None) → ⊥)
                 → first_mark asked (ts ++ us) ess ≡ or_mark m later
                 → IfOk r (λ found. found ≡ m) → IfOk r (λ found. found ≡ first_mark asked (ts ++ us) ess)
             answer m ess later (Ok None) some is told = absurd (some refl)
@@ -215,11 +215,11 @@ module _ {H : Type 0} (bytes_of : H → Option (List ℕ)) where
             stops ts us A A C old new new (Ok (Some input)) f (λ is. cc)
             (subst (λ (x : Option Bool). TellsFirst bytes_of faults asked ts A old new (Ok x)) some told)
 
-        pub fails_before : (e : TableFault) (r : Result (Option Bool) TableFault) → r ≡ Err e
+        pub fails_before : (e : ReadFault) (r : Result (Option Bool) ReadFault) → r ≡ Err e
             → TellsFirst bytes_of faults asked ts A old new (Err e)
             → TellsFirst bytes_of faults asked (ts ++ us) C old new r
         fails_before e r is told =
-            subst (λ (s : Result (Option Bool) TableFault). TellsFirst bytes_of faults asked (ts ++ us) C old new s) (sym is)
+            subst (λ (s : Result (Option Bool) ReadFault). TellsFirst bytes_of faults asked (ts ++ us) C old new s) (sym is)
             (stops ts us A A C old new new (Err e) f (λ is. cc) told)
 
       -- ---- tables one behind the other
@@ -244,12 +244,12 @@ module _ {H : Type 0} (bytes_of : H → Option (List ℕ)) where
             (subst (λ (x : Option Bool). TellsFirst bytes_of faults asked us B mid new (Ok x)) some told)))
 
         -- or fail
-        pub failed_there : (back : List (Table H)) (e : TableFault) (r : Result (Option Bool) TableFault)
+        pub failed_there : (back : List (Table H)) (e : ReadFault) (r : Result (Option Bool) ReadFault)
             → all ≡ (front ++ us) ++ back → r ≡ Err e
             → TellsFirst bytes_of faults asked us B mid new (Err e) → TellsFirst bytes_of faults asked all C old new r
         failed_there back e r parts is told =
             subst (λ (l : List (Table H)). TellsFirst bytes_of faults asked l C old new r) (sym parts)
-            (subst (λ (s : Result (Option Bool) TableFault). TellsFirst bytes_of faults asked ((front ++ us) ++ back) C old new s) (sym is)
+            (subst (λ (s : Result (Option Bool) ReadFault). TellsFirst bytes_of faults asked ((front ++ us) ++ back) C old new s) (sym is)
             (stops (front ++ us) back C B C old mid new (Err e) (λ c. c) (λ is. cc)
             (goes_on front us A B C old mid new (Err e) f g so_far told)))
 
@@ -311,13 +311,13 @@ module _ {H : Type 0} (bytes_of : H → Option (List ℕ)) where
                   whole es (fs ∷ ess) are = absurd are
 
           -- it failed
-          pub failed_in : (e : TableFault) (r : Result (Option Bool) TableFault) → r ≡ Err e
+          pub failed_in : (e : ReadFault) (r : Result (Option Bool) ReadFault) → r ≡ Err e
               → HasCause (faults old.reader) (faults new.reader) (Failed {T = Option Found} (Err e))
               → ((files : Files) → ReadsOf bytes_of files old (t ∷ [])
               → LooksOn bytes_of (t ∷ []) (Unit {0}) asked.look asked.key.now None (faults old.reader) (faults new.reader) (Err e))
               → TellsFirst bytes_of faults asked (t ∷ []) (Unit {0}) old new r
           failed_in e r is cause looks =
-              subst (λ (s : Result (Option Bool) TableFault). TellsFirst bytes_of faults asked (t ∷ []) (Unit {0}) old
+              subst (λ (s : Result (Option Bool) ReadFault). TellsFirst bytes_of faults asked (t ∷ []) (Unit {0}) old
               new s) (sym is) (record {
                 cause = by e cause;
                 kept = kept;
@@ -325,7 +325,7 @@ module _ {H : Type 0} (bytes_of : H → Option (List ℕ)) where
                 answer = λ files reads lawful ess are. tt;
               })
             where
-              by : (e : TableFault) → HasCause (faults old.reader) (faults new.reader) (Failed {T = Option Found} (Err e))
+              by : (e : ReadFault) → HasCause (faults old.reader) (faults new.reader) (Failed {T = Option Found} (Err e))
                   → HasCause (faults old.reader) (faults new.reader) (Failed {T = Option Bool} (Err e))
               by NoMemory cause = cause
               by (Disk name) cause = cause
@@ -348,7 +348,7 @@ module _ {H : Type 0} (bytes_of : H → Option (List ℕ)) where
       }
 
       -- the first that doesn't is asked
-      pub level_asked : (ts : List (Table H)) (t : Table H) (old new : BlockReader R) (at : ℕ) (r : Result (Option Bool) TableFault)
+      pub level_asked : (ts : List (Table H)) (t : Table H) (old new : BlockReader R) (at : ℕ) (r : Result (Option Bool) ReadFault)
           → (IsParted (ends_before asked.key.now) ts → at ≡ prefix_len (ends_before asked.key.now) ts) → at < length ts → t ≡ get_or ts at t
           → TellsFirst bytes_of faults asked (t ∷ []) (Unit {0}) old new r → TellsFirst bytes_of faults asked ts (AreApart ts) old new r
       level_asked ts t old new at r first within is one = record {
@@ -371,12 +371,12 @@ module _ {H : Type 0} (bytes_of : H → Option (List ℕ)) where
               (read_front bytes_of files old (take at ts ++ t ∷ []) (drop (suc at) ts)
               (subst (λ (l : List (Table H)). ReadsOf bytes_of files old l) parts reads))
 
-          fault : (r : Result (Option Bool) TableFault) → IfErr r (MayFailOn bytes_of (t ∷ [])) → IfErr r (MayFailOn bytes_of ts)
+          fault : (r : Result (Option Bool) ReadFault) → IfErr r (MayFailOn bytes_of (t ∷ [])) → IfErr r (MayFailOn bytes_of ts)
           fault (Ok m) fails = tt
           fault (Err e) fails = subst (λ (l : List (Table H)). MayFailOn bytes_of l e) (sym parts)
               (fails-front (take at ts ++ t ∷ []) (drop (suc at) ts) e (fails-back (take at ts) (t ∷ []) e fails))
 
-          answer : (m : Option Bool) (ess : List (List Entry)) (r : Result (Option Bool) TableFault) → first_mark asked ts ess ≡ m
+          answer : (m : Option Bool) (ess : List (List Entry)) (r : Result (Option Bool) ReadFault) → first_mark asked ts ess ≡ m
               → IfOk r (λ found. found ≡ m) → IfOk r (λ found. found ≡ first_mark asked ts ess)
           answer m ess (Ok found) is told = told ∙ sym is
           answer m ess (Err e) is told = tt

@@ -4,25 +4,25 @@ use Rattle.std.specs.Prelude.{Some, None, Result, Ok, Err}
 use Rattle.std.specs.List.{list_any}
 use Rattle.std.specs.Option.{is_some, option_copied, option_map}
 use Rattle.std.proofs.Common.{refl, ap, sym, subst, ◌∙◌, arith, cond, Bor}
-use Rattle.vl_block.specs.Cutting.{joined}
-use Rattle.vl_block.specs.Founds.{found_of}
-use Rattle.vl_block.specs.declared.found.Found.{Found}
+use Rattle.vl_model.specs.Cutting.{joined}
+use Rattle.vl_table.specs.body.Founds.{found_of}
+use Rattle.vl_table.specs.declared.body.found.Found.{Found}
 use Rattle.vl_disk.specs.Faults.{HasCause}
 use Rattle.vl_merge.specs.Marked.{Marked, all_of, is_first_outside, outside_of}
-use Rattle.vl_merge.specs.Merging.{has_older}
+use Rattle.vl_model.specs.Merging.{has_older}
 use Rattle.vl_model.specs.Cursors.{IsCounted}
 use Rattle.vl_model.specs.Winners.{counts, exact, winner}
 use Rattle.vl_model.specs.declared.entry.Entry.{Entry}
-use Rattle.vl_run.specs.laws.Exact.{exact-append}
-use Rattle.vl_run.specs.Lookups.{or_else}
+use Rattle.vl_model.specs.laws.Exact.{exact-append}
+use Rattle.vl_model.specs.Lookups.{or_else}
 use Rattle.vl_table.specs.Answers.{Failed, IsAnswer}
 use Rattle.vl_table.specs.CursorParts.{MayFailOn, is_disk_fault}
 use Rattle.vl_table.specs.Kept.{Files}
 use Rattle.vl_table.specs.KeptBlocks.{AreKept, ReadsOf}
 use Rattle.vl_table.specs.OfTables.{AreOf}
 use Rattle.vl_table.specs.declared.block_reader.BlockReader.{BlockReader}
-use Rattle.vl_table.specs.declared.fault.TableFault.{TableFault}
-use Rattle.vl_table.specs.declared.fault.TableFault.TheVariants.{NoMemory, Disk, Damaged}
+use Rattle.vl_disk.specs.declared.read_fault.ReadFault.{ReadFault}
+use Rattle.vl_disk.specs.declared.read_fault.ReadFault.TheVariants.{NoMemory, Disk, Damaged}
 use Rattle.vl_version.specs.Bases.{Fits, HasSources, marked_sources, marked_tables}
 use Rattle.vl_version.specs.Sources.{in_memory, tables_in}
 use Rattle.vl_version.specs.declared.levels.Levels.{Levels}
@@ -41,7 +41,7 @@ or_either : {a : Bool} (b : Bool) → a ≡ true → true ≡ (a || b)
 or_either b is = ap (λ (x : Bool). x || b) (sym is)
 
 module _ {H R : Type 0} (bytes_of : H → Option (List ℕ)) (faults : R → ℕ) (version : Version H) where
-  abbrev pub Told : {T : Type 0} → (List (List Entry) → T → Type 0) → BlockReader R → BlockReader R → Result T TableFault → Type 0
+  abbrev pub Told : {T : Type 0} → (List (List Entry) → T → Type 0) → BlockReader R → BlockReader R → Result T ReadFault → Type 0
   Told good old new r = Tells bytes_of faults (tables_in version) (AreInOrder version.behind.levels) good old new r
 
   -- ---- no table was asked
@@ -59,9 +59,9 @@ module _ {H R : Type 0} (bytes_of : H → Option (List ℕ)) (faults : R → ℕ
     answer = λ files reads lawful ess are. so ess;
   }
 
-  pub held_memory : {T : Type 0} (good : List (List Entry) → T → Type 0) (b : BlockReader R) (r : Result T TableFault) → r ≡ Err NoMemory
+  pub held_memory : {T : Type 0} (good : List (List Entry) → T → Type 0) (b : BlockReader R) (r : Result T ReadFault) → r ≡ Err NoMemory
       → Told good b b r
-  held_memory {T} good b r is = subst (λ (s : Result T TableFault). Told good b b s) (sym is) (record {
+  held_memory {T} good b r is = subst (λ (s : Result T ReadFault). Told good b b s) (sym is) (record {
     cause = no_failure (faults b.reader);
     kept = λ files reads. reads.kept;
     fault = λ files reads. tt;
@@ -71,8 +71,8 @@ module _ {H R : Type 0} (bytes_of : H → Option (List ℕ)) (faults : R → ℕ
   -- want of memory behind what was answered
   pub memory_wanted : {S T : Type 0} (good : List (List Entry) → S → Type 0) (other : List (List Entry) → T → Type 0)
       (old new : BlockReader R) (x : S)
-      (r : Result T TableFault) → r ≡ Err NoMemory → Told good old new (Ok x) → Told other old new r
-  memory_wanted {S} {T} good other old new x r is told = subst (λ (s : Result T TableFault). Told other old new s) (sym is) (record {
+      (r : Result T ReadFault) → r ≡ Err NoMemory → Told good old new (Ok x) → Told other old new r
+  memory_wanted {S} {T} good other old new x r is told = subst (λ (s : Result T ReadFault). Told other old new s) (sym is) (record {
     cause = told.cause;
     kept = told.kept;
     fault = λ files reads. tt;
@@ -89,7 +89,7 @@ module _ {H R : Type 0} (bytes_of : H → Option (List ℕ)) (faults : R → ℕ
 
   module _ (key : List ℕ) (number : ℕ) where
     pub tables_told : (levels : Levels H) → levels ≡ version.behind.levels
-        → (old new : BlockReader R) (r : Result (Option Found) TableFault)
+        → (old new : BlockReader R) (r : Result (Option Found) ReadFault)
         → HasCause (faults old.reader) (faults new.reader) (Failed r)
         → ((files : Files) → ReadsOf bytes_of files old (tables_of levels) → AreKept files new)
         → ((files : Files) → ReadsOf bytes_of files old (tables_of levels)
@@ -104,12 +104,12 @@ module _ {H R : Type 0} (bytes_of : H → Option (List ℕ)) (faults : R → ℕ
           answer = λ files reads lawful ess are. answer r ess ((looks files reads).answer lawful ess are);
         })
       where
-        fault : (r : Result (Option Found) TableFault) → NamesAsked bytes_of (tables_of levels) key r
+        fault : (r : Result (Option Found) ReadFault) → NamesAsked bytes_of (tables_of levels) key r
             → IfErr r (MayFailOn bytes_of (tables_of levels))
         fault (Ok x) names = tt
         fault (Err e) names = names_fail bytes_of (tables_of levels) key e names
 
-        answer : (r : Result (Option Found) TableFault) (ess : List (List Entry))
+        answer : (r : Result (Option Found) ReadFault) (ess : List (List Entry))
             → IsAnswer (λ x. option_map (found_of key) x ≡ exact (joined ess) key number) (λ place. ⊥) r
             → IfOk r (TablesHave key number ess)
         answer (Ok x) ess is = is
@@ -133,7 +133,7 @@ module _ {H R : Type 0} (bytes_of : H → Option (List ℕ)) (faults : R → ℕ
         (λ ess has. same ∙ has ∙ sym (exact-append key number (in_memory version) (joined ess)
         ∙ ap (λ (o : Option Entry). or_else o (exact (joined ess) key number)) (sym is ∙ ap option_copied none))) told
 
-    pub tables_failed : (old new : BlockReader R) (e : TableFault) (r : Result (Option Entry) TableFault) → r ≡ Err e
+    pub tables_failed : (old new : BlockReader R) (e : ReadFault) (r : Result (Option Entry) ReadFault) → r ≡ Err e
         → Told (TablesHave key number) old new (Err e) → Told (SourcesHave key number) old new r
     tables_failed old new e r is told =
         fails_so bytes_of faults (tables_in version) (AreInOrder version.behind.levels) (TablesHave key number)
@@ -141,7 +141,7 @@ module _ {H R : Type 0} (bytes_of : H → Option (List ℕ)) (faults : R → ℕ
 
   -- ---- all sources are asked, but the inputs or behind these
 
-  says_by : {T : Type 0} (good other : List (List Entry) → T → Type 0) (old new : BlockReader R) (r : Result T TableFault)
+  says_by : {T : Type 0} (good other : List (List Entry) → T → Type 0) (old new : BlockReader R) (r : Result T ReadFault)
       → ((ess : List (List Entry)) (x : T) → good ess x → other ess x) → Told good old new r → Told other old new r
   says_by {T} good other old new r says told = record {
     cause = told.cause;
@@ -150,7 +150,7 @@ module _ {H R : Type 0} (bytes_of : H → Option (List ℕ)) (faults : R → ℕ
     answer = λ files reads lawful ess are. by r ess (told.answer files reads lawful ess are);
   }
     where
-      by : (r : Result T TableFault) (ess : List (List Entry)) → IfOk r (good ess) → IfOk r (other ess)
+      by : (r : Result T ReadFault) (ess : List (List Entry)) → IfOk r (good ess) → IfOk r (other ess)
       by (Ok x) ess is = says ess x is
       by (Err e) ess is = tt
 
@@ -174,7 +174,7 @@ module _ {H R : Type 0} (bytes_of : H → Option (List ℕ)) (faults : R → ℕ
     pub tables_older : (held : Option (Bor Entry)) (b : Bool)
         → option_copied held ≡ winner (in_memory version) key (number - 1) → b ≡ is_some held
         → b ≡ false → 1 ≤ number → (levels : Levels H) → levels ≡ version.behind.levels
-        → (old new : BlockReader R) (r : Result Bool TableFault)
+        → (old new : BlockReader R) (r : Result Bool ReadFault)
         → Tells bytes_of faults (tables_of levels) (AreInOrder levels)
         (λ ess found. found ≡ list_any (counts key (number - 1)) (outside_of (marked_tables inputs (tables_of levels) ess))) old new r
         → Told HasOlder old new r
@@ -201,7 +201,7 @@ module _ {H R : Type 0} (bytes_of : H → Option (List ℕ)) (faults : R → ℕ
 
     pub tables_outside : (held : Option (Bor Entry)) (b : Bool)
         → option_copied held ≡ exact (in_memory version) key number → b ≡ is_some held
-        → b ≡ false → (levels : Levels H) → levels ≡ version.behind.levels → (old new : BlockReader R) (r : Result Bool TableFault)
+        → b ≡ false → (levels : Levels H) → levels ≡ version.behind.levels → (old new : BlockReader R) (r : Result Bool ReadFault)
         → Tells bytes_of faults (tables_of levels) (AreInOrder levels)
         (λ ess found. found ≡ is_first_outside (marked_tables inputs (tables_of levels) ess) key number) old new r
         → Told IsFirst old new r
@@ -216,7 +216,7 @@ module _ {H R : Type 0} (bytes_of : H → Option (List ℕ)) (faults : R → ℕ
 
   -- ---- what a merge is told
 
-  module _ {T : Type 0} (good : List (List Entry) → T → Type 0) (old new : BlockReader R) (r : Result T TableFault)
+  module _ {T : Type 0} (good : List (List Entry) → T → Type 0) (old new : BlockReader R) (r : Result T ReadFault)
       (told : Told good old new r) where
     pub fits_on : Fits bytes_of version old → Fits bytes_of version new
     fits_on fits = (fits.0, record { kept = told.kept fits.0 fits.1; told = fits.1.told })
@@ -228,7 +228,7 @@ module _ {H R : Type 0} (bytes_of : H → Option (List ℕ)) (faults : R → ℕ
         (λ fault. IsCounted (is_disk_fault fault) (faults old.reader) (faults new.reader))
     is_counted = by r told.cause
       where
-        by : (r : Result T TableFault) → HasCause (faults old.reader) (faults new.reader) (Failed r)
+        by : (r : Result T ReadFault) → HasCause (faults old.reader) (faults new.reader) (Failed r)
             → MatchResult r (λ x. faults new.reader ≡ faults old.reader)
             (λ fault. IsCounted (is_disk_fault fault) (faults old.reader) (faults new.reader))
         by (Ok x) cause = cause.steady (λ failed. failed)
@@ -245,25 +245,25 @@ module _ {H R : Type 0} (bytes_of : H → Option (List ℕ)) (faults : R → ℕ
     told_of inputs ms other fits has says =
         by r (told.answer fits.0 fits.1 has.in_order has.tabled has.tables)
       where
-        by : (r : Result T TableFault) → IfOk r (good has.tabled) → IfOk r (other ms)
+        by : (r : Result T ReadFault) → IfOk r (good has.tabled) → IfOk r (other ms)
         by (Ok x) is = subst (λ (l : List Marked). other l x) (sym has.entries) (says has.tabled x has.tables is)
         by (Err e) is = tt
 
   module _ (key : List ℕ) (number : ℕ) (old new : BlockReader R) where
-    pub exact_found : (r : Result (Option Entry) TableFault) → Told (SourcesHave key number) old new r
+    pub exact_found : (r : Result (Option Entry) ReadFault) → Told (SourcesHave key number) old new r
         → (inputs : List ℕ) (ms : List Marked)
         → Fits bytes_of version old → HasSources bytes_of version inputs ms → IfOk r (λ found. found ≡ exact (all_of ms) key number)
     exact_found r told inputs ms fits has =
         told_of (SourcesHave key number) old new r told inputs ms (λ ms found. found ≡ exact (all_of ms) key number) fits has
         (λ ess found are is. is ∙ sym (ap (λ (l : List Entry). exact l key number) (all-sources bytes_of inputs version ess are)))
 
-    pub older_found : (inputs : List ℕ) (r : Result Bool TableFault) → Told (HasOlder inputs key number) old new r → (ms : List Marked)
+    pub older_found : (inputs : List ℕ) (r : Result Bool ReadFault) → Told (HasOlder inputs key number) old new r → (ms : List Marked)
         → Fits bytes_of version old → HasSources bytes_of version inputs ms → IfOk r (λ found. found ≡ has_older (outside_of ms) key number)
     older_found inputs r told ms fits has =
         told_of (HasOlder inputs key number) old new r told inputs ms (λ ms found. found ≡ has_older (outside_of ms) key number) fits has
         (λ ess found are is. is)
 
-    pub first_found : (inputs : List ℕ) (r : Result Bool TableFault) → Told (IsFirst inputs key number) old new r → (ms : List Marked)
+    pub first_found : (inputs : List ℕ) (r : Result Bool ReadFault) → Told (IsFirst inputs key number) old new r → (ms : List Marked)
         → Fits bytes_of version old → HasSources bytes_of version inputs ms → IfOk r (λ found. found ≡ is_first_outside ms key number)
     first_found inputs r told ms fits has =
         told_of (IsFirst inputs key number) old new r told inputs ms (λ ms found. found ≡ is_first_outside ms key number) fits has

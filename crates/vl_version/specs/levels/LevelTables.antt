@@ -4,7 +4,7 @@ use Rattle.std.specs.List.{AllByRecursion}
 use Rattle.std.specs.Ordering.{is_gt}
 use Rattle.std.specs.declared.cmp.Ordering.TheVariants.{Less}
 use Rattle.vl_model.specs.Keys.{key_cmp}
-use Rattle.vl_block.specs.declared.footer.Footer.{Footer}
+use Rattle.vl_table.specs.declared.body.footer.Footer.{Footer}
 use Rattle.vl_table.specs.Tables.{shape_of}
 use Rattle.vl_table.specs.declared.table.Table.{Table}
 

@@ -2,9 +2,9 @@
 use Rattle.std.specs.Prelude.{◌≡◌, ℕ, true, false, List, [], ◌∷◌, ◌++◌, Option, Result, Ok, Err}
 use Rattle.std.specs.Option.{ForSome, option_map}
 use Rattle.vl_model.specs.declared.entry.Entry.{Entry}
-use Rattle.vl_block.specs.Cutting.{joined}
-use Rattle.vl_block.specs.Founds.{found_of}
-use Rattle.vl_block.specs.declared.found.Found.{Found}
+use Rattle.vl_model.specs.Cutting.{joined}
+use Rattle.vl_table.specs.body.Founds.{found_of}
+use Rattle.vl_table.specs.declared.body.found.Found.{Found}
 use Rattle.vl_disk.specs.Faults.{HasCause}
 use Rattle.vl_disk.specs.declared.name.Name.{Name}
 use Rattle.vl_disk.specs.declared.name.Name.TheVariants.{Table as table_name}
@@ -13,8 +13,8 @@ use Rattle.vl_table.specs.MayHold.{may_hold}
 use Rattle.vl_table.specs.Meets.{Looks}
 use Rattle.vl_table.specs.Seeks.{IsBadBlock}
 use Rattle.vl_table.specs.Tables.{number_of, shape_of}
-use Rattle.vl_table.specs.declared.fault.TableFault.{TableFault}
-use Rattle.vl_table.specs.declared.fault.TableFault.TheVariants.{NoMemory, Disk, Damaged}
+use Rattle.vl_disk.specs.declared.read_fault.ReadFault.{ReadFault}
+use Rattle.vl_disk.specs.declared.read_fault.ReadFault.TheVariants.{NoMemory, Disk, Damaged}
 use Rattle.vl_table.specs.declared.table.Table.{Table}
 use Rattle.vl_table.specs.OfTables.{AreOf}
 use Rattle.vl_version.specs.levels.Looks.{better, is_asked, makes, place_version, sought}
@@ -42,7 +42,7 @@ module _ {H : Type 0} (bytes_of : H → Option (List ℕ)) where
   IsDamagedAt place t = ForSome (bytes_of t.held) (λ bytes. IsBadBlock (shape_of t) bytes place)
 
   -- where a look-up fails, of which table
-  abbrev pub NamesAsked : List (Table H) → List ℕ → Result (Option Found) TableFault → Type 0
+  abbrev pub NamesAsked : List (Table H) → List ℕ → Result (Option Found) ReadFault → Type 0
   NamesAsked ts key (Ok found) = Unit {0}
   NamesAsked ts key (Err NoMemory) = Unit {0}
   NamesAsked ts key (Err (Disk name)) = IsFaultOf ts key name (λ t. Unit {0})
@@ -78,7 +78,7 @@ module _ {H : Type 0} (bytes_of : H → Option (List ℕ)) where
     pub why : P table
 
   -- an answer is so: all of them were looked in, or those up to the first that failed
-  abbrev pub LooksInAll : Look → List ℕ → (best : Option Entry) → List (Table H) → Result (Option Found) TableFault → Type 0
+  abbrev pub LooksInAll : Look → List ℕ → (best : Option Entry) → List (Table H) → Result (Option Found) ReadFault → Type 0
   LooksInAll look key best ts (Ok found) = LooksThrough look key best ts (option_map (found_of key) found)
   LooksInAll look key best ts (Err NoMemory) = Unit {0}
   LooksInAll look key best ts (Err (Disk name)) = StopsAt look key best ts name (λ t. Unit {0})
@@ -90,7 +90,7 @@ module _ {H : Type 0} (bytes_of : H → Option (List ℕ)) where
   -- they are true and lawful, and then they aren't damaged; or a fault of one that may hold the key. Reading failed only where
   -- that was counted.
   pub record LooksOn (ts : List (Table H)) (Lawful : Type 0) (look : Look) (key : List ℕ) (best : Option Entry) (before now : ℕ)
-      (result : Result (Option Found) TableFault) : Type 0 where
+      (result : Result (Option Found) ReadFault) : Type 0 where
     pub cause : HasCause before now (Failed result)
     pub fault : NamesAsked ts key result
     pub answer : Lawful → (ess : List (List Entry)) → AreOf bytes_of ts ess
@@ -98,7 +98,7 @@ module _ {H : Type 0} (bytes_of : H → Option (List ℕ)) where
 
   -- The same where nothing was found before: the answer is what is to be found among all entries.
   pub record LookedUp (ts : List (Table H)) (Lawful : Type 0) (find : List Entry → Option Entry) (key : List ℕ) (before now : ℕ)
-      (result : Result (Option Found) TableFault) : Type 0 where
+      (result : Result (Option Found) ReadFault) : Type 0 where
     pub cause : HasCause before now (Failed result)
     pub fault : NamesAsked ts key result
     pub answer : Lawful → (ess : List (List Entry)) → AreOf bytes_of ts ess

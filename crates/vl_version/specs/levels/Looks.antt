@@ -2,8 +2,8 @@
 use Rattle.std.specs.Prelude.{ℕ, Bool, true, false, ◌&&◌, nat_le, nat_lt, List, Option, Some, None}
 use Rattle.vl_model.specs.Winners.{exact, newest_of, winner}
 use Rattle.vl_model.specs.declared.entry.Entry.{Entry}
-use Rattle.vl_run.specs.Lookups.{if_exact, if_of_key, or_else}
-use Rattle.vl_block.specs.declared.shape.TableShape.{TableShape}
+use Rattle.vl_model.specs.Lookups.{if_exact, if_of_key, or_else}
+use Rattle.vl_table.specs.declared.body.shape.TableShape.{TableShape}
 use Rattle.vl_table.specs.MayHold.{may_hold}
 use Rattle.vl_version.specs.declared.levels.look.Look.{Look}
 use Rattle.vl_version.specs.declared.levels.look.Look.TheVariants.{UpTo, Exactly}

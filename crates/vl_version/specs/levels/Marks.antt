@@ -9,7 +9,7 @@ use Rattle.vl_table.specs.Kept.{Files}
 use Rattle.vl_table.specs.KeptBlocks.{AreKept, ReadsOf}
 use Rattle.vl_table.specs.OfTables.{AreOf}
 use Rattle.vl_table.specs.declared.block_reader.BlockReader.{BlockReader}
-use Rattle.vl_table.specs.declared.fault.TableFault.{TableFault}
+use Rattle.vl_disk.specs.declared.read_fault.ReadFault.{ReadFault}
 use Rattle.vl_table.specs.declared.table.Table.{Table}
 use Rattle.vl_version.specs.Bases.{is_input}
 use Rattle.vl_version.specs.levels.Looks.{sought}
@@ -45,7 +45,7 @@ module _ {H : Type 0} where
 -- Something was asked of tables that their entries say. That is answered where the reader keeps blocks of their files, and where
 -- they are true and lawful. A fault is of one of them, and reading failed only where that was counted.
 pub record Tells {H R T : Type 0} (bytes_of : H → Option (List ℕ)) (faults : R → ℕ) (ts : List (Table H)) (Lawful : Type 0)
-    (good : List (List Entry) → T → Type 0) (old new : BlockReader R) (result : Result T TableFault) : Type 0 where
+    (good : List (List Entry) → T → Type 0) (old new : BlockReader R) (result : Result T ReadFault) : Type 0 where
   pub cause : HasCause (faults old.reader) (faults new.reader) (Failed result)
   pub kept : (files : Files) → ReadsOf bytes_of files old ts → AreKept files new
   pub fault : (files : Files) → ReadsOf bytes_of files old ts → IfErr result (MayFailOn bytes_of ts)
@@ -54,6 +54,6 @@ pub record Tells {H R T : Type 0} (bytes_of : H → Option (List ℕ)) (faults :
 
 -- so it is of the first of these tables that has an entry
 abbrev pub TellsFirst : {H R : Type 0} → (H → Option (List ℕ)) → (R → ℕ) → Asked → List (Table H) → (Lawful : Type 0)
-    → (old new : BlockReader R) → Result (Option Bool) TableFault → Type 0
+    → (old new : BlockReader R) → Result (Option Bool) ReadFault → Type 0
 TellsFirst bytes_of faults asked ts Lawful old new result =
     Tells bytes_of faults ts Lawful (λ ess found. found ≡ first_mark asked ts ess) old new result

@@ -1,7 +1,7 @@
 //! The tables of a scan: those whose ranges meet its interval.
 
 ghost use Rattle.std.specs.Prelude.{◌≡◌, ◌++◌, [], List, IfOk, OnOk};
-ghost use Rattle.vl_block.specs.Cutting.{joined};
+ghost use Rattle.vl_model.specs.Cutting.{joined};
 ghost use Rattle.vl_model.specs.declared.entry.Entry.{Entry};
 ghost use Rattle.vl_table.specs.OfTables.{AreOf};
 ghost use Rattle.vl_table.specs.Tables.{IsOf};

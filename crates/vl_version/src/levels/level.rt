@@ -2,7 +2,7 @@
 
 ghost use Rattle.std.specs.Prelude.{◌≡◌, ◌≤◌, List, length};
 ghost use Rattle.std.specs.List.{prefix_len};
-ghost use Rattle.vl_run.specs.Lookups.{IsParted};
+ghost use Rattle.vl_model.specs.Lookups.{IsParted};
 ghost use Rattle.vl_version.specs.levels.LevelTables.{ends_before};
 
 use std::marker::Model;

@@ -2,11 +2,11 @@
 
 ghost use Rattle.std.specs.Prelude.{◌≡◌, ℕ, List, None};
 ghost use Rattle.std.specs.Option.{option_map};
-ghost use Rattle.vl_block.specs.Founds.{found_of};
+ghost use Rattle.vl_table.specs.body.Founds.{found_of};
 ghost use Rattle.vl_model.specs.Winners.{newest_of};
 ghost use Rattle.vl_version.specs.levels.Looks.{better, is_wanted};
 
-use vl_block::Found;
+use vl_table::Found;
 
 // Which entry of a key is looked for.
 #[derive(Clone, Copy)]

@@ -3,7 +3,7 @@
 ghost use Rattle.std.specs.Prelude.{◌≡◌, ◌∷◌, [], ℕ, true, false, List, None, Ok};
 ghost use Rattle.std.specs.Option.{option_map};
 ghost use Rattle.vl_model.specs.declared.entry.Entry.{Entry};
-ghost use Rattle.vl_block.specs.Founds.{found_of};
+ghost use Rattle.vl_table.specs.body.Founds.{found_of};
 ghost use Rattle.vl_disk.specs.Faults.{HasCause};
 ghost use Rattle.vl_table.specs.Answers.{Answers, Failed, NeedsNoMemory};
 ghost use Rattle.vl_table.specs.Kept.{Files};
@@ -18,9 +18,8 @@ ghost use Rattle.vl_version.specs.levels.Looks.{is_asked, makes, place_version, 
 
 use super::level::ending_before;
 use super::look::{Look, better, is_wanted};
-use vl_block::Found;
-use vl_disk::{HeldFile, Reader};
-use vl_table::{BlockReader, Table, TableFault};
+use vl_disk::{HeldFile, ReadFault, Reader};
+use vl_table::{BlockReader, Found, Table};
 
 // Looks in one table, of which nothing is read where it may not have the key.
 fn ask<H: HeldFile, R: Reader<Held = H>>(
@@ -28,7 +27,7 @@ fn ask<H: HeldFile, R: Reader<Held = H>>(
     table: &Table<H>,
     key: &[u8],
     look: Look,
-) -> Result<Option<Found>, TableFault>
+) -> Result<Option<Found>, ReadFault>
     ensures kept { (files : Files) → ReadsOf H.bytes files reader.old (table.now ∷ []) → AreKept files reader.new }
     ensures answers { (files : Files) → ReadsOf H.bytes files reader.old (table.now ∷ [])
         → Answers (R.faults reader.old.reader) (R.faults reader.new.reader) (number_of table.now) (H.bytes table.now.held)
@@ -54,7 +53,7 @@ pub fn look_in<H: HeldFile, R: Reader<Held = H>>(
     key: &[u8],
     look: Look,
     best: Option<Found>,
-) -> Result<Option<Found>, TableFault>
+) -> Result<Option<Found>, ReadFault>
     ensures kept { (files : Files) → ReadsOf H.bytes files reader.old (table.now ∷ []) → AreKept files reader.new }
     ensures answers { (files : Files) → ReadsOf H.bytes files reader.old (table.now ∷ [])
         → LooksOn H.bytes (table.now ∷ []) (Unit {0}) look key.now (option_map (found_of key.now) best)
@@ -82,7 +81,7 @@ pub fn look_in_level<H: HeldFile, R: Reader<Held = H>>(
     key: &[u8],
     look: Look,
     best: Option<Found>,
-) -> Result<Option<Found>, TableFault>
+) -> Result<Option<Found>, ReadFault>
     ensures kept { (files : Files) → ReadsOf H.bytes files reader.old tables.now → AreKept files reader.new }
     ensures answers { (files : Files) → ReadsOf H.bytes files reader.old tables.now
         → LooksOn H.bytes tables.now (AreApart tables.now) look key.now (option_map (found_of key.now) best)

@@ -13,8 +13,8 @@ use super::level::ending_before;
 use super::look::Look;
 use super::lookup::look_in;
 use super::{Level, Levels};
-use vl_disk::{HeldFile, Reader};
-use vl_table::{BlockReader, Table, TableFault};
+use vl_disk::{HeldFile, ReadFault, Reader};
+use vl_table::{BlockReader, Table};
 
 /// What is asked of tables: which is the first that has such an entry of a key.
 #[derive(Clone, Copy)]
@@ -44,7 +44,7 @@ impl<H: HeldFile> Levels<H> {
         inputs: &[u32],
         key: &[u8],
         number: u64,
-    ) -> Result<bool, TableFault>
+    ) -> Result<bool, ReadFault>
         ensures { Tells H.bytes R.faults (tables_of self.now) (AreInOrder self.now) (λ ess found. found
             ≡ list_any (counts key.now number) (outside_of (marked_tables inputs.now (tables_of self.now) ess)))
             reader.old reader.new result }
@@ -67,7 +67,7 @@ impl<H: HeldFile> Levels<H> {
         inputs: &[u32],
         key: &[u8],
         version: u64,
-    ) -> Result<bool, TableFault>
+    ) -> Result<bool, ReadFault>
         ensures { Tells H.bytes R.faults (tables_of self.now) (AreInOrder self.now) (λ ess found. found
             ≡ is_first_outside (marked_tables inputs.now (tables_of self.now) ess) key.now version)
             reader.old reader.new result }
@@ -98,7 +98,7 @@ impl<H: HeldFile> Levels<H> {
         &self,
         reader: &mut BlockReader<R>,
         asked: Asked<'_>,
-    ) -> Result<Option<bool>, TableFault>
+    ) -> Result<Option<bool>, ReadFault>
         ensures { TellsFirst H.bytes R.faults asked.entry (tables_of self.now) (AreInOrder self.now)
             reader.old reader.new result }
     {
@@ -114,7 +114,7 @@ fn first_in_each<H: HeldFile, R: Reader<Held = H>>(
     reader: &mut BlockReader<R>,
     tables: &[Table<H>],
     asked: Asked<'_>,
-) -> Result<Option<bool>, TableFault>
+) -> Result<Option<bool>, ReadFault>
     ensures { TellsFirst H.bytes R.faults asked.entry tables.now (Unit {0}) reader.old reader.new result }
 {
     for table in tables {
@@ -130,7 +130,7 @@ fn first_in_levels<H: HeldFile, R: Reader<Held = H>>(
     reader: &mut BlockReader<R>,
     levels: &[Level<H>],
     asked: Asked<'_>,
-) -> Result<Option<bool>, TableFault>
+) -> Result<Option<bool>, ReadFault>
     ensures { TellsFirst H.bytes R.faults asked.entry (all_tables levels.now) (AreAllApart levels.now)
         reader.old reader.new result }
 {
@@ -147,7 +147,7 @@ fn mark_in_level<H: HeldFile, R: Reader<Held = H>>(
     reader: &mut BlockReader<R>,
     tables: &[Table<H>],
     asked: Asked<'_>,
-) -> Result<Option<bool>, TableFault>
+) -> Result<Option<bool>, ReadFault>
     ensures { TellsFirst H.bytes R.faults asked.entry tables.now (AreApart tables.now) reader.old reader.new result }
 {
     let at = ending_before(tables, asked.key);
@@ -162,7 +162,7 @@ fn mark_of<H: HeldFile, R: Reader<Held = H>>(
     reader: &mut BlockReader<R>,
     table: &Table<H>,
     asked: Asked<'_>,
-) -> Result<Option<bool>, TableFault>
+) -> Result<Option<bool>, ReadFault>
     ensures { TellsFirst H.bytes R.faults asked.entry (table.now ∷ []) (Unit {0}) reader.old reader.new result }
 {
     let input = is_input(asked.inputs, table);

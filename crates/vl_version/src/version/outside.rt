@@ -2,9 +2,9 @@
 
 ghost use Rattle.std.specs.Prelude.{◌≡◌, ◌++◌};
 ghost use Rattle.std.specs.Option.{option_copied};
-ghost use Rattle.vl_block.specs.Cutting.{joined};
+ghost use Rattle.vl_model.specs.Cutting.{joined};
 ghost use Rattle.vl_merge.specs.Marked.{is_first_outside, outside_of};
-ghost use Rattle.vl_merge.specs.Merging.{has_older};
+ghost use Rattle.vl_model.specs.Merging.{has_older};
 ghost use Rattle.vl_model.specs.Winners.{exact};
 ghost use Rattle.vl_version.specs.Bases.{marked_sources};
 ghost use Rattle.vl_version.specs.Sources.{in_memory, tables_in};
@@ -14,9 +14,9 @@ ghost use Rattle.vl_version.specs.levels.Marks.{Tells};
 use crate::Version;
 use crate::frozen::exact_frozen;
 use crate::owned::owned_entry;
-use vl_disk::{HeldFile, Reader};
+use vl_disk::{HeldFile, ReadFault, Reader};
 use vl_model::Entry;
-use vl_table::{BlockReader, TableFault};
+use vl_table::BlockReader;
 
 impl<H: HeldFile> Version<H> {
     /// The entry of a key and version in the first source that has one.
@@ -25,7 +25,7 @@ impl<H: HeldFile> Version<H> {
         reader: &mut BlockReader<R>,
         key: &[u8],
         version: u64,
-    ) -> Result<Option<Entry>, TableFault>
+    ) -> Result<Option<Entry>, ReadFault>
         ensures { Tells H.bytes R.faults (tables_in self.now) (AreInOrder self.now.behind.levels)
             (λ ess found. found ≡ exact (in_memory self.now ++ joined ess) key.now version) reader.old reader.new result }
     {
@@ -49,7 +49,7 @@ impl<H: HeldFile> Version<H> {
         inputs: &[u32],
         key: &[u8],
         version: u64,
-    ) -> Result<bool, TableFault>
+    ) -> Result<bool, ReadFault>
         ensures { Tells H.bytes R.faults (tables_in self.now) (AreInOrder self.now.behind.levels)
             (λ ess found. found ≡ has_older (outside_of (marked_sources inputs.now self.now ess)) key.now version)
             reader.old reader.new result }
@@ -71,7 +71,7 @@ impl<H: HeldFile> Version<H> {
         inputs: &[u32],
         key: &[u8],
         version: u64,
-    ) -> Result<bool, TableFault>
+    ) -> Result<bool, ReadFault>
         ensures { Tells H.bytes R.faults (tables_in self.now) (AreInOrder self.now.behind.levels)
             (λ ess found. found ≡ is_first_outside (marked_sources inputs.now self.now ess) key.now version)
             reader.old reader.new result }

@@ -5,9 +5,9 @@ ghost use Rattle.vl_model.specs.Numbers.{greatest_below, nth_below};
 ghost use Rattle.vl_model.specs.Versions.{versions_in};
 ghost use Rattle.vl_version.specs.Past.{SeeksVersion};
 
+use crate::Version;
 use crate::newest::{newer_of, stand_in, version_of};
-use crate::{ReadFault, Version};
-use vl_disk::{HeldFile, Reader};
+use vl_disk::{HeldFile, ReadFault, Reader};
 use vl_table::BlockReader;
 
 impl<H: HeldFile> Version<H> {

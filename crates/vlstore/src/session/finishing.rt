@@ -9,7 +9,7 @@ ghost use Rattle.vl_turn.specs.Views.{entered, gave};
 use crate::locked::Locked;
 use std::sync::Wait;
 use vl_disk::Disk;
-use vl_layout::LockEntry;
+use vl_engine_model::LockEntry;
 use vl_turn::{Says, Turn, TurnLock};
 
 /// Gives the turn back after a call of the engine. What was asked and answered is for the entry alone.

@@ -1,5 +1,5 @@
 ghost use Rattle.std.specs.Prelude.{◌≡◌, true, IfOk};
-ghost use Rattle.vl_layout.specs.Rulings.Stats.{stats_ruling};
+ghost use Rattle.vl_engine_model.specs.Rulings.Stats.{stats_ruling};
 ghost use Rattle.vl_model.specs.History.{last_number};
 ghost use Rattle.vlstore.specs.Knowing.{GoesOn, Looked};
 ghost use Rattle.vl_table.specs.Kept.{Files};
@@ -11,7 +11,7 @@ use std::marker::Brand;
 use std::sync::Wait;
 use vl_compact::JobReader;
 use vl_disk::{Disk, NoMemory};
-use vl_layout::SegmentStat;
+use vl_engine_model::SegmentStat;
 use vl_table::BlockReader;
 
 impl<D: Disk> Session<D> {

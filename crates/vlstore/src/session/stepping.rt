@@ -1,9 +1,9 @@
 ghost use Rattle.std.specs.Prelude.{◌≡◌, is_some, true};
 ghost use Rattle.vl_engine.specs.Stepping.{step_outcome};
-ghost use Rattle.vl_layout.specs.Rulings.Flush.{flush_ruling};
-ghost use Rattle.vl_layout.specs.Rulings.Rotate.{rotate_ruling};
-ghost use Rattle.vl_layout.specs.declared.layout.Layout.{Layout};
-ghost use Rattle.vl_layout.specs.declared.lock_history.LockStep.{LockStep};
+ghost use Rattle.vl_engine_model.specs.Rulings.Flush.{flush_ruling};
+ghost use Rattle.vl_engine_model.specs.Rulings.Rotate.{rotate_ruling};
+ghost use Rattle.vl_engine_model.specs.declared.layout.Layout.{Layout};
+ghost use Rattle.vl_engine_model.specs.declared.lock_history.LockStep.{LockStep};
 ghost use Rattle.vlstore.specs.Entries.{done_by, flush_entry, rotate_entry, step_done};
 ghost use Rattle.vlstore.specs.Knowing.{GoesOn, KeepsOwnMerge, Stepped};
 ghost use Rattle.vlstore.specs.Standing.{NeverFails};

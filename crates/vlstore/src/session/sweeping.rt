@@ -1,8 +1,8 @@
 ghost use Rattle.std.specs.Prelude.{◌≡◌, ℕ, is_some, true};
 ghost use Rattle.vl_engine.specs.Sweeping.{sweep_outcome};
-ghost use Rattle.vl_layout.specs.Rulings.Sweep.{sweep_ruling};
-ghost use Rattle.vl_layout.specs.declared.layout.Layout.{Layout};
-ghost use Rattle.vl_layout.specs.declared.lock_history.LockStep.{LockStep};
+ghost use Rattle.vl_engine_model.specs.Rulings.Sweep.{sweep_ruling};
+ghost use Rattle.vl_engine_model.specs.declared.layout.Layout.{Layout};
+ghost use Rattle.vl_engine_model.specs.declared.lock_history.LockStep.{LockStep};
 ghost use Rattle.vlstore.specs.Entries.{done_by, sweep_done, sweep_entry};
 ghost use Rattle.vlstore.specs.Knowing.{GoesOn, KeepsOwnMerge, Stepped};
 ghost use Rattle.vlstore.specs.Standing.{NeverFails};

@@ -1,12 +1,12 @@
 //! A pass of one batch.
 ghost use Rattle.std.specs.Prelude.{◌≡◌, None, false, true};
 ghost use Rattle.vl_collect.specs.Passing.{IsWholeFrom};
-ghost use Rattle.vl_collect.specs.declared.fault.PassFault.TheVariants as faults;
+ghost use Rattle.vl_disk.specs.declared.read_fault.ReadFault.TheVariants as faults;
 ghost use Rattle.vl_drive.specs.Answers as drive;
 ghost use Rattle.vl_drive.specs.Knowing.{GoesAside};
 ghost use Rattle.vl_drive.specs.declared.fails.StepFail.TheVariants as fails;
 ghost use Rattle.vl_engine.specs.Collecting.{FitsLooks, GoesOver};
-ghost use Rattle.vl_layout.specs.Relocation as layout;
+ghost use Rattle.vl_engine_model.specs.Relocation as layout;
 ghost use Rattle.vlstore.specs.Handing.{HasLasted};
 ghost use Rattle.vlstore.specs.Knowing.{GoesOn};
 ghost use Rattle.vlstore.specs.Merging.{Did, IsChange};
@@ -16,7 +16,8 @@ use crate::session::Session;
 use crate::unfailing::Unfailing;
 use std::alloc::Global;
 use std::sync::Wait;
-use vl_collect::{Pass, PassFault};
+use vl_collect::Pass;
+use vl_disk::ReadFault;
 use vl_drive::StepFail;
 use vl_engine::{MoveFail, PickFail};
 use vl_version::Base;
@@ -95,12 +96,12 @@ fn moved(answer: Result<u32, MoveFail>) -> Result<(), StepFail>
 }
 
 // Memory was wanting.
-fn wanting(fault: PassFault) -> StepFail
+fn wanting(fault: ReadFault) -> StepFail
     requires { fault ≡ faults.NoMemory }
     ensures { result ≡ fails.NoMemory }
 {
     match fault {
-        PassFault::NoMemory => StepFail::NoMemory,
-        PassFault::Disk { .. } | PassFault::Damaged { .. } => unreachable!(),
+        ReadFault::NoMemory => StepFail::NoMemory,
+        ReadFault::Disk { .. } | ReadFault::Damaged { .. } => unreachable!(),
     }
 }

@@ -32,7 +32,7 @@ impl Shops for SureStore {
     ghost use Rattle.vl_drive.specs.Driven.{IsClosed};
     ghost use Rattle.vl_drive.specs.Stores.{AreOf};
     ghost use Rattle.vl_engine.specs.Sees.{SeesAlone};
-    ghost use Rattle.vl_layout.specs.declared.lock_history.LockEntry.{LockEntry};
+    ghost use Rattle.vl_engine_model.specs.declared.lock_history.LockEntry.{LockEntry};
     ghost use Rattle.vl_mem.specs.Held.{held_bytes};
     ghost use Rattle.vl_model.specs.History.{last_number};
     ghost use Rattle.vlstore.specs.Lists.{history_by};

@@ -3,7 +3,7 @@ use Rattle.std.specs.Prelude.{Some}
 use Rattle.vl_back.proofs.Adding.{AddsFront}
 use Rattle.vl_back.proofs.table.add_left.Given as goal
 use Rattle.vl_model.specs.declared.entry.Entry.{Entry}
-use Rattle.vl_table_writer.specs.Writing.{IsWriting}
+use Rattle.vl_table.specs.writer.Writing.{IsWriting}
 
 abbrev pub invariant-adding : goal.invariant-adding
 invariant-adding g l = record {

@@ -1,7 +1,7 @@
 use Rattle.std.proofs.Common.{ap, subst, sym, ◌∙◌}
 use Rattle.vl_back.proofs.table.finished.Goals as goal
-use Rattle.vl_block.specs.Shapes.{IsShapeOf}
-use Rattle.vl_block.specs.declared.shape.TableShape.{TableShape}
+use Rattle.vl_table.specs.body.Shapes.{IsShapeOf}
+use Rattle.vl_table.specs.declared.body.shape.TableShape.{TableShape}
 
 pub returns-clause-spelled : goal.returns-clause-spelled
 returns-clause-spelled c = λ number es writing.

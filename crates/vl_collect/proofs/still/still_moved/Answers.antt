@@ -7,7 +7,7 @@ use Rattle.vl_collect.proofs.Stills.{one_moved, one_stays}
 use Rattle.vl_collect.proofs.still.still_moved.Goals as goal
 use Rattle.vl_collect.proofs.still.still_moved.Goals.{then-branch+then-is_elsewhere+in_ok-put, else-branch}
 use Rattle.vl_collect.proofs.still.still_moved.Goals.{else-branch-via-then-branch+else-is_elsewhere, else-branch-via-else-branch}
-use Rattle.vl_layout.specs.Relocation.{Candidate}
+use Rattle.vl_engine_model.specs.Relocation.{Candidate}
 use Rattle.vl_model.specs.Formats.{log_format}
 use Rattle.vl_model.specs.declared.log_frame.Moved.{Moved}
 use Rattle.vl_seglog.specs.Moves.{AreOnce, IsElsewhere, IsMoved}

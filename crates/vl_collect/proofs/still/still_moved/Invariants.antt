@@ -4,7 +4,7 @@ use Rattle.std.specs.List.{All, AllByRecursion, Contains}
 use Rattle.vl_model.specs.Formats.{log_format}
 use Rattle.vl_seglog.specs.Moves.{AreOnce, IsMoved}
 use Rattle.vl_collect.specs.Passing.{HasEntries}
-use Rattle.vl_layout.specs.Relocation.{Candidate, moved_of}
+use Rattle.vl_engine_model.specs.Relocation.{Candidate, moved_of}
 use Rattle.vl_model.specs.declared.entry.Entry.{Entry}
 use Rattle.vl_model.specs.declared.log_frame.Moved.{Moved}
 

@@ -10,8 +10,8 @@ use Rattle.vl_collect.proofs.taking.take_found.Goals.{in-None, in-Some+else-not-
 use Rattle.vl_collect.specs.Batches.{IsLawful, IsOf}
 use Rattle.vl_collect.specs.Taking.{candidates, one_of, outcome, record_of, records_as}
 use Rattle.vl_collect.specs.declared.batch.Found.{Found}
-use Rattle.vl_layout.specs.Logs.{LogRecord}
-use Rattle.vl_layout.specs.Relocation.{found_in, has_room, value_lengths}
+use Rattle.vl_engine_model.specs.Logs.{LogRecord}
+use Rattle.vl_engine_model.specs.Relocation.{found_in, has_room, value_lengths}
 use Rattle.vl_collect.proofs.taking.take_found.Goals as goal
 
 pub returns-in_err-found_in-clause-cause : goal.returns-in_err-found_in-clause-cause

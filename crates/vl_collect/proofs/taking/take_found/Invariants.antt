@@ -5,7 +5,7 @@ use Rattle.vl_collect.proofs.Rising.{InFront}
 use Rattle.vl_collect.proofs.taking.take_found.Given as goal
 use Rattle.vl_collect.specs.Passing.{HasEntries}
 use Rattle.vl_collect.specs.Taking.{candidates, outcome, records_as}
-use Rattle.vl_layout.specs.Logs.{LogRecord}
+use Rattle.vl_engine_model.specs.Logs.{LogRecord}
 use Rattle.vl_model.specs.declared.entry.Entry.{Entry}
 
 abbrev pub invariant-loop-at : goal.invariant-loop-at

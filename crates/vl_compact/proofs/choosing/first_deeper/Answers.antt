@@ -4,8 +4,8 @@ use Rattle.std.proofs.Common.{◌≡◌, ◌+◌, ◌∙◌, List, ap, sym, subs
 use Rattle.vl_compact.proofs.Into.{in_level, past_level}
 use Rattle.vl_compact.proofs.Zips.{zip_at, zip_end}
 use Rattle.vl_compact.specs.Laid.{AreBoth, AreTablesOf, IsTableOf}
-use Rattle.vl_layout.specs.Levels.{first_into}
-use Rattle.vl_layout.specs.declared.table.Table as laid
+use Rattle.vl_engine_model.specs.Levels.{first_into}
+use Rattle.vl_engine_model.specs.declared.table.Table as laid
 use Rattle.vl_table.specs.declared.table.Table.{Table}
 use Rattle.vl_compact.proofs.choosing.first_deeper.Goals as goal
 

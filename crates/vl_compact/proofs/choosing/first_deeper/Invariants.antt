@@ -1,8 +1,8 @@
 use Rattle.std.proofs.Common.{◌≡◌, List, drop}
 use Rattle.std.specs.List.{AllZip, flat_map}
 use Rattle.vl_compact.specs.Laid.{AreTablesOf}
-use Rattle.vl_layout.specs.Levels.{first_into}
-use Rattle.vl_layout.specs.declared.table.Table as laid
+use Rattle.vl_engine_model.specs.Levels.{first_into}
+use Rattle.vl_engine_model.specs.declared.table.Table as laid
 use Rattle.vl_compact.proofs.choosing.first_deeper.Given as goal
 
 abbrev pub invariant-loop-level : goal.invariant-loop-level

@@ -3,7 +3,7 @@ use Rattle.std.proofs.Common.{◌+◌, ◌∙◌, ap, sym, subst, drop}
 use Rattle.vl_compact.proofs.Into.{into_here, into_next}
 use Rattle.vl_compact.proofs.Zips.{zip_at, zip_end}
 use Rattle.vl_compact.specs.Laid.{AreBoth, IsTableOf}
-use Rattle.vl_layout.specs.Levels.{first_into}
+use Rattle.vl_engine_model.specs.Levels.{first_into}
 use Rattle.vl_compact.proofs.choosing.first_of.Goals as goal
 
 pub returns-then-has_point : goal.returns-then-has_point

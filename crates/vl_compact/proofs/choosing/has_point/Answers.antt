@@ -1,8 +1,8 @@
 use Rattle.std.specs.Prelude.{◌==◌}
 use Rattle.std.specs.List.{list_any}
 use Rattle.std.proofs.Common.{◌∙◌, ap, List}
-use Rattle.vl_block.specs.declared.points.Point.{Point}
-use Rattle.vl_block.specs.declared.shape.TableShape.{TableShape}
+use Rattle.vl_model.specs.declared.point.Point.{Point}
+use Rattle.vl_table.specs.declared.body.shape.TableShape.{TableShape}
 use Rattle.vl_compact.proofs.Of.{points_are}
 use Rattle.vl_compact.proofs.choosing.has_point.Goals as goal
 

@@ -4,7 +4,7 @@ use Rattle.std.proofs.Common.{◌≡◌, ℕ, ◌+◌, ◌-◌, ◌∷◌, ◌�
 use Rattle.vl_compact.proofs.Choices.{least_next}
 use Rattle.vl_compact.proofs.Zips.{zip_at, zip_end}
 use Rattle.vl_compact.specs.Laid.{AreBoth, IsTableOf}
-use Rattle.vl_layout.specs.Levels.{least_table}
+use Rattle.vl_engine_model.specs.Levels.{least_table}
 use Rattle.vl_compact.proofs.choosing.least.Goals as goal
 
 pub loop-at-init : goal.loop-at-init

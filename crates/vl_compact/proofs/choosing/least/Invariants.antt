@@ -1,8 +1,8 @@
 use Rattle.std.proofs.Common.{◌≤◌, List, length, drop}
 use Rattle.std.specs.Option.{option_copied}
 use Rattle.vl_compact.specs.Laid.{AreBoth, AreTablesOf, IsTableOf}
-use Rattle.vl_layout.specs.Levels.{least_table}
-use Rattle.vl_layout.specs.declared.table.Table as laid
+use Rattle.vl_engine_model.specs.Levels.{least_table}
+use Rattle.vl_engine_model.specs.declared.table.Table as laid
 use Rattle.vl_compact.proofs.choosing.least.Given as goal
 
 abbrev pub invariant-loop-at : goal.invariant-loop-at

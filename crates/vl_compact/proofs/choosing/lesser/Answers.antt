@@ -5,8 +5,8 @@ use Rattle.vl_table.specs.declared.table.Table.{Table}
 use Rattle.vl_compact.proofs.Choices.{of_some}
 use Rattle.vl_compact.proofs.Into.{none_both}
 use Rattle.vl_compact.specs.Laid.{AreBoth, IsTableOf}
-use Rattle.vl_layout.specs.Levels.{lesser_table}
-use Rattle.vl_layout.specs.declared.table.Table as laid
+use Rattle.vl_engine_model.specs.Levels.{lesser_table}
+use Rattle.vl_engine_model.specs.declared.table.Table as laid
 use Rattle.vl_compact.proofs.choosing.lesser.Goals as goal
 
 pub returns-in-Some : goal.returns-in-Some

@@ -1,6 +1,6 @@
 use Rattle.std.specs.Prelude.{Some}
 use Rattle.std.proofs.Common.{◌∙◌, ap, subst}
-use Rattle.vl_block.specs.declared.shape.TableShape.{TableShape}
+use Rattle.vl_table.specs.declared.body.shape.TableShape.{TableShape}
 use Rattle.vl_compact.proofs.Choices.{lesser_here, lesser_there}
 use Rattle.vl_compact.specs.Laid.{AreBoth, IsTableOf}
 use Rattle.vl_compact.proofs.choosing.lesser_of.Goals as goal

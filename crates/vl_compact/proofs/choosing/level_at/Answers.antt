@@ -4,8 +4,8 @@ use Rattle.std.specs.Option.{option_copied}
 use Rattle.std.proofs.Common.{◌≡◌, ◌-◌, ◌∙◌, List, ap, sym, subst}
 use Rattle.vl_compact.proofs.LevelAt.{deeper_is, front_is, no_deeper}
 use Rattle.vl_compact.specs.Laid.{AreTablesOf, IsTableOf}
-use Rattle.vl_layout.specs.Levels.{level_at}
-use Rattle.vl_run.specs.laws.Places.{slice_get-lent}
+use Rattle.vl_engine_model.specs.Levels.{level_at}
+use Rattle.vl_model.specs.laws.Places.{slice_get-lent}
 use Rattle.vl_table.specs.declared.table.Table.{Table}
 use Rattle.vl_compact.proofs.choosing.level_at.Goals as goal
 

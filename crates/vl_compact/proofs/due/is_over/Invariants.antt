@@ -2,7 +2,7 @@ use Rattle.std.proofs.Common.{◌≡◌, List, drop}
 use Rattle.std.specs.Prelude.{nat_lt}
 use Rattle.vl_compact.proofs.DueLaws.{bytes_of}
 use Rattle.vl_compact.specs.Laid.{AreTablesOf}
-use Rattle.vl_layout.specs.declared.table.Table as laid
+use Rattle.vl_engine_model.specs.declared.table.Table as laid
 use Rattle.vl_compact.proofs.due.is_over.Given as goal
 
 abbrev pub invariant-loop-table : goal.invariant-loop-table

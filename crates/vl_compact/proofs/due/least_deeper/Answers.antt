@@ -2,7 +2,7 @@ use Rattle.std.proofs.Common.{◌≡◌, ◌+◌, ◌∙◌, List, ap, sym, subs
 use Rattle.vl_compact.proofs.DueLaws.{due_here, due_next}
 use Rattle.vl_compact.proofs.Zips.{zip_at, zip_end}
 use Rattle.vl_compact.specs.Laid.{AreTablesOf}
-use Rattle.vl_layout.specs.Levels.{due_from}
+use Rattle.vl_engine_model.specs.Levels.{due_from}
 use Rattle.vl_table.specs.declared.table.Table.{Table}
 use Rattle.vl_compact.proofs.due.least_deeper.Goals as goal
 

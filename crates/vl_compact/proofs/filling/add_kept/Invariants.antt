@@ -5,7 +5,7 @@ use Rattle.vl_compact.specs.Filling.{IsWrittenTo}
 use Rattle.vl_compact.specs.Keeps.{AreRulesOf, stage}
 use Rattle.vl_compact.specs.Lending.{IsSteady}
 use Rattle.vl_compact.specs.Reading.{NoneRose, counts}
-use Rattle.vl_layout.specs.declared.job.Job as laid
+use Rattle.vl_engine_model.specs.declared.job.Job as laid
 use Rattle.vl_model.specs.declared.entry.Entry.{Entry}
 use Rattle.vl_compact.proofs.filling.add_kept.Given as goal
 

@@ -1,4 +1,4 @@
-use Rattle.vl_block.specs.Bytes.{table_header}
+use Rattle.vl_table.specs.body.Bytes.{table_header}
 use Rattle.vl_compact.proofs.Pieces.{first_out}
 use Rattle.vl_model.specs.Formats.{table_format}
 use Rattle.std.proofs.Common.{[]}

@@ -2,7 +2,7 @@ use Rattle.std.proofs.Common.{List, ◌+◌, ◌++◌, sym, subst, take}
 use Rattle.vl_compact.proofs.Choices.{put_next}
 use Rattle.vl_compact.proofs.Zips.{zip_all, zip_at}
 use Rattle.vl_compact.specs.Laid.{AreTablesOf, IsTableOf}
-use Rattle.vl_layout.specs.declared.table.Table as laid
+use Rattle.vl_engine_model.specs.declared.table.Table as laid
 use Rattle.vl_compact.proofs.inputs.add_all.Goals as goal
 
 pub loop-table-preserved : goal.loop-table-preserved

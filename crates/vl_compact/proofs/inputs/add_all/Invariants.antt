@@ -1,6 +1,6 @@
 use Rattle.std.proofs.Common.{List, ◌++◌, take}
 use Rattle.vl_compact.specs.Laid.{AreTablesOf}
-use Rattle.vl_layout.specs.declared.table.Table as laid
+use Rattle.vl_engine_model.specs.declared.table.Table as laid
 use Rattle.vl_compact.proofs.inputs.add_all.Given as goal
 
 abbrev pub invariant-loop-table : goal.invariant-loop-table

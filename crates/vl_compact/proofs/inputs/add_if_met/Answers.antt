@@ -3,7 +3,7 @@ use Rattle.std.proofs.Common.{◌∙◌, sym, subst}
 use Rattle.vl_compact.proofs.Choices.{kept_one, passed_one}
 use Rattle.vl_compact.specs.Laid.{AreTablesOf}
 use Rattle.vl_compact.specs.Ranges.{range_in}
-use Rattle.vl_layout.specs.Levels.{meets}
+use Rattle.vl_engine_model.specs.Levels.{meets}
 use Rattle.vl_compact.proofs.inputs.add_if_met.Goals as goal
 
 pub returns-then-not-meets : goal.returns-then-not-meets

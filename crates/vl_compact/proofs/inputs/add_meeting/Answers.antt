@@ -5,8 +5,8 @@ use Rattle.vl_compact.proofs.Choices.{kept_next}
 use Rattle.vl_compact.proofs.Zips.{zip_all, zip_at}
 use Rattle.vl_compact.specs.Laid.{AreTablesOf, IsTableOf}
 use Rattle.vl_compact.specs.Ranges.{range_in}
-use Rattle.vl_layout.specs.Levels.{meets}
-use Rattle.vl_layout.specs.declared.table.Table as laid
+use Rattle.vl_engine_model.specs.Levels.{meets}
+use Rattle.vl_engine_model.specs.declared.table.Table as laid
 use Rattle.vl_compact.proofs.inputs.add_meeting.Goals as goal
 
 pub loop-table-preserved : goal.loop-table-preserved

@@ -3,8 +3,8 @@ use Rattle.std.specs.Option.{option_map}
 use Rattle.std.specs.List.{filter}
 use Rattle.vl_compact.specs.Laid.{AreTablesOf}
 use Rattle.vl_compact.specs.Ranges.{range_in}
-use Rattle.vl_layout.specs.Levels.{meets}
-use Rattle.vl_layout.specs.declared.table.Table as laid
+use Rattle.vl_engine_model.specs.Levels.{meets}
+use Rattle.vl_engine_model.specs.declared.table.Table as laid
 use Rattle.vl_compact.proofs.inputs.add_meeting.Given as goal
 
 abbrev pub invariant-loop-table : goal.invariant-loop-table

@@ -2,14 +2,14 @@ use Rattle.std.specs.Prelude.{ℕ, Option, Some, None, ◌+◌}
 use Rattle.std.specs.Option.{option_map}
 use Rattle.std.proofs.Common.{◌≡◌, ◌∙◌, refl, ap, [], ◌∷◌}
 use Rattle.vl_compact.specs.Ruled.{merge_ruling}
-use Rattle.vl_layout.specs.Levels.{due_from, first_into, inputs_at}
-use Rattle.vl_layout.specs.Rulings.Drain.{drain_of, drain_unless}
-use Rattle.vl_layout.specs.Rulings.Plan.{plan_of, plan_unless}
-use Rattle.vl_layout.specs.Sources.{tables}
-use Rattle.vl_layout.specs.declared.job.OpenJob.{OpenJob}
-use Rattle.vl_layout.specs.declared.job.Target.TheVariants.{InPlace, Level}
-use Rattle.vl_layout.specs.declared.layout.Layout.{Layout}
-use Rattle.vl_layout.specs.declared.table.Table.{Table}
+use Rattle.vl_engine_model.specs.Levels.{due_from, first_into, inputs_at}
+use Rattle.vl_engine_model.specs.Rulings.Drain.{drain_of, drain_unless}
+use Rattle.vl_engine_model.specs.Rulings.Plan.{plan_of, plan_unless}
+use Rattle.vl_engine_model.specs.Sources.{tables}
+use Rattle.vl_engine_model.specs.declared.job.OpenJob.{OpenJob}
+use Rattle.vl_engine_model.specs.declared.job.Target.TheVariants.{InPlace, Level}
+use Rattle.vl_engine_model.specs.declared.layout.Layout.{Layout}
+use Rattle.vl_engine_model.specs.declared.table.Table.{Table}
 use Rattle.vl_model.specs.History.{History}
 use Rattle.vl_compact.proofs.laws.merges_are_as_ruled.Goals as goal
 

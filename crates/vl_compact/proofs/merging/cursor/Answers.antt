@@ -1,10 +1,10 @@
 use Rattle.std.proofs.Common.{List, [], ◌∷◌, ◌++◌, Some, ap, subst, sym, ◌∙◌}
 use Rattle.std.proofs.lemmas.Result.{IfOk-weaker}
-use Rattle.vl_block.specs.Cutting.{joined}
+use Rattle.vl_model.specs.Cutting.{joined}
 use Rattle.vl_compact.proofs.Lefts.{fails_shared, one_left}
 use Rattle.vl_compact.proofs.Of.{shared_is}
 use Rattle.vl_model.specs.declared.span.Span.{Span}
-use Rattle.vl_run.specs.Order.{within}
+use Rattle.vl_model.specs.EntryOrder.{within}
 use Rattle.vl_table.specs.CursorParts.{MayFailOn}
 use Rattle.vl_table.specs.OfTables.{AreOf}
 use Rattle.vl_table.specs.declared.table.Table.{Table}

@@ -4,12 +4,12 @@ use Rattle.vl_compact.proofs.Lefts.{fails_there, item_there, more_fails}
 use Rattle.vl_compact.proofs.Zips.{zip_all, zip_at, zip_push}
 use Rattle.vl_compact.specs.Laid.{IsTableOf}
 use Rattle.vl_compact.specs.Lefts.{HasBehind}
-use Rattle.vl_layout.specs.declared.table.Table as laid
+use Rattle.vl_engine_model.specs.declared.table.Table as laid
 use Rattle.vl_merge.specs.MergeOf.{OneMayFail}
 use Rattle.vl_table.specs.CursorLeft.{cursor_left}
 use Rattle.vl_table.specs.CursorParts.{MayFailOn}
 use Rattle.vl_table.specs.declared.cursor.TableCursor.{TableCursor}
-use Rattle.vl_table.specs.declared.fault.TableFault.{TableFault}
+use Rattle.vl_disk.specs.declared.read_fault.ReadFault.{ReadFault}
 use Rattle.vl_compact.proofs.merging.cursors.Goals as goal
 
 pub loop-table-preserved : goal.loop-table-preserved
@@ -25,7 +25,7 @@ loop-table-preserved g c = record {
       (zip_push R c.loop-table.cursors.items (take i ts) c.in_ok-cursor.field-0 at.item (c.loop-table.invariant.left ts are)
       (c.in_ok-cursor.ensures.left at.item at.is)));
   fails = λ fault may.
-      let May = λ (x : TableCursor g.row.H.Denot g.row.R.Denot g.H.HeldFile g.H.Clone) (f : TableFault). MayFailOn g.H.HeldFile.bytes x.tables.items f in
+      let May = λ (x : TableCursor g.row.H.Denot g.row.R.Denot g.H.HeldFile g.H.Clone) (f : ReadFault). MayFailOn g.H.HeldFile.bytes x.tables.items f in
       more_fails May (MayFailOn g.H.HeldFile.bytes c.args.tables.now) c.loop-table.cursors.items c.in_ok-cursor.field-0 fault
       (c.loop-table.invariant.fails fault)
       (λ here. fails_there g.H.HeldFile.bytes c.args.tables.now c.table-item.result c.loop-table.table-index

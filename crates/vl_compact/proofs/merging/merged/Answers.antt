@@ -3,9 +3,9 @@ use Rattle.std.specs.Prelude.{map}
 use Rattle.std.proofs.lemmas.Result.{IfOk-weaker}
 use Rattle.vl_compact.proofs.Lefts.{all_along, all_left, behind_all}
 use Rattle.vl_compact.specs.Keys.{behind}
-use Rattle.vl_layout.specs.declared.table.Table as laid
+use Rattle.vl_engine_model.specs.declared.table.Table as laid
 use Rattle.vl_merge.specs.MergeOf.{merge_of}
-use Rattle.vl_merge.specs.Merging.{merged}
+use Rattle.vl_model.specs.Merging.{merged}
 use Rattle.vl_model.specs.declared.way.Way.TheVariants.{Up}
 use Rattle.vl_table.specs.CursorLeft.{cursor_left}
 use Rattle.vl_table.specs.declared.cursor.TableCursor.{TableCursor}

@@ -6,9 +6,9 @@ use Rattle.vl_compact.proofs.Into.{none_both}
 use Rattle.vl_compact.proofs.MergeLaws.{drain_some}
 use Rattle.vl_compact.specs.Laid.{IsTableOf}
 use Rattle.vl_compact.specs.Merges.{IsMerge}
-use Rattle.vl_layout.specs.Levels.{first_into}
-use Rattle.vl_layout.specs.declared.job.Target.TheVariants.{InPlace}
-use Rattle.vl_layout.specs.declared.table.Table as laid
+use Rattle.vl_engine_model.specs.Levels.{first_into}
+use Rattle.vl_engine_model.specs.declared.job.Target.TheVariants.{InPlace}
+use Rattle.vl_engine_model.specs.declared.table.Table as laid
 use Rattle.vl_compact.proofs.planning.drained.Goals as goal
 
 pub returns-in-None : goal.returns-in-None

@@ -4,8 +4,8 @@ use Rattle.std.proofs.lemmas.Result.{IfOk-weaker}
 use Rattle.vl_compact.proofs.Choices.{due_all, due_one, none_next, of_some}
 use Rattle.vl_compact.proofs.Into.{none_both}
 use Rattle.vl_compact.specs.Laid.{AreTablesOf, IsTableOf}
-use Rattle.vl_layout.specs.Levels.{due_inputs, least_table, level_at, one_or_none, with_next}
-use Rattle.vl_layout.specs.declared.table.Table as laid
+use Rattle.vl_engine_model.specs.Levels.{due_inputs, least_table, level_at, one_or_none, with_next}
+use Rattle.vl_engine_model.specs.declared.table.Table as laid
 use Rattle.vl_table.specs.declared.table.Table.{Table}
 use Rattle.vl_compact.proofs.planning.inputs_at.Goals as goal
 

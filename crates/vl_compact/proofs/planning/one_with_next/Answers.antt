@@ -2,7 +2,7 @@ use Rattle.std.specs.Prelude.{Option}
 use Rattle.std.specs.List.{filter}
 use Rattle.std.proofs.Common.{[], ◌∷◌, ◌++◌, subst}
 use Rattle.vl_compact.specs.Laid.{AreTablesOf}
-use Rattle.vl_layout.specs.Levels.{Range, meets}
+use Rattle.vl_engine_model.specs.Levels.{Range, meets}
 use Rattle.vl_compact.proofs.planning.one_with_next.Goals as goal
 
 pub returns : goal.returns

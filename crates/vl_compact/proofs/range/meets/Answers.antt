@@ -1,11 +1,11 @@
 use Rattle.std.specs.Option.{option_map}
 use Rattle.std.proofs.Common.{◌∙◌, ap, sym}
-use Rattle.vl_block.specs.declared.shape.TableShape.{TableShape}
+use Rattle.vl_table.specs.declared.body.shape.TableShape.{TableShape}
 use Rattle.std.specs.Prelude.{Option}
 use Rattle.vl_compact.proofs.Choices.{meets_is}
 use Rattle.vl_compact.proofs.Of.{first_is, last_is}
 use Rattle.vl_compact.specs.Ranges.{range_in}
-use Rattle.vl_layout.specs.Levels.{Range, meets}
+use Rattle.vl_engine_model.specs.Levels.{Range, meets}
 use Rattle.vl_compact.proofs.range.meets.Goals as goal
 
 pub returns-in-Some : goal.returns-in-Some

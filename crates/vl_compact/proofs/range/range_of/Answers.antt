@@ -4,7 +4,7 @@ use Rattle.vl_compact.proofs.Zips.{zip_at, zip_end}
 use Rattle.std.specs.Option.{option_map}
 use Rattle.vl_compact.specs.Ranges.{range_in}
 use Rattle.vl_compact.specs.Laid.{IsTableOf}
-use Rattle.vl_layout.specs.Levels.{range_of, widened}
+use Rattle.vl_engine_model.specs.Levels.{range_of, widened}
 use Rattle.vl_compact.proofs.range.range_of.Goals as goal
 
 pub loop-at-init : goal.loop-at-init

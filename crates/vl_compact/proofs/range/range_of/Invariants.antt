@@ -2,8 +2,8 @@ use Rattle.std.proofs.Common.{◌≡◌, ◌≤◌, List, length, drop}
 use Rattle.std.specs.Option.{option_map}
 use Rattle.vl_compact.specs.Laid.{AreTablesOf}
 use Rattle.vl_compact.specs.Ranges.{range_in}
-use Rattle.vl_layout.specs.Levels.{range_of}
-use Rattle.vl_layout.specs.declared.table.Table as laid
+use Rattle.vl_engine_model.specs.Levels.{range_of}
+use Rattle.vl_engine_model.specs.declared.table.Table as laid
 use Rattle.vl_compact.proofs.range.range_of.Given as goal
 
 abbrev pub invariant-loop-at : goal.invariant-loop-at

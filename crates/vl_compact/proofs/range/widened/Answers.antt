@@ -1,6 +1,6 @@
 use Rattle.std.specs.Option.{option_map}
 use Rattle.std.proofs.Common.{◌∙◌, ap}
-use Rattle.vl_block.specs.declared.shape.TableShape.{TableShape}
+use Rattle.vl_table.specs.declared.body.shape.TableShape.{TableShape}
 use Rattle.vl_compact.proofs.Choices.{range_alone, range_more}
 use Rattle.vl_compact.proofs.Of.{first_is, last_is}
 use Rattle.vl_compact.specs.Ranges.{range_in}

@@ -2,7 +2,7 @@ use Rattle.std.specs.Prelude.{not}
 use Rattle.std.proofs.Common.{◌∙◌, ap, sym, subst}
 use Rattle.vl_compact.proofs.Choices.{kept_one, passed_one}
 use Rattle.vl_compact.specs.Laid.{AreTablesOf}
-use Rattle.vl_layout.specs.Levels.{is_among}
+use Rattle.vl_engine_model.specs.Levels.{is_among}
 use Rattle.vl_compact.proofs.replacing.add_other.Goals as goal
 
 pub returns-then-is_input : goal.returns-then-is_input

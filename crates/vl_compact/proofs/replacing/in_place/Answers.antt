@@ -1,6 +1,6 @@
 use Rattle.std.proofs.lemmas.Result.{IfOk-weaker}
 use Rattle.vl_compact.proofs.PlaceLaws.{place_in_place}
-use Rattle.vl_layout.specs.declared.job.Target.TheVariants.{InPlace}
+use Rattle.vl_engine_model.specs.declared.job.Target.TheVariants.{InPlace}
 use Rattle.vl_compact.proofs.replacing.in_place.Goals as goal
 
 pub returns-clause-ready : goal.returns-clause-ready

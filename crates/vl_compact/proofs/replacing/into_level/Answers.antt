@@ -4,8 +4,8 @@ use Rattle.std.proofs.Common.{List, ℕ, subst, sym}
 use Rattle.vl_compact.proofs.PlaceLaws.{place_in_level}
 use Rattle.vl_compact.specs.Laid.{AreTablesOf}
 use Rattle.vl_compact.specs.Places.{IsPlace}
-use Rattle.vl_layout.specs.Levels.{level_at, without}
-use Rattle.vl_layout.specs.declared.job.Target.TheVariants.{Level}
+use Rattle.vl_engine_model.specs.Levels.{level_at, without}
+use Rattle.vl_engine_model.specs.declared.job.Target.TheVariants.{Level}
 use Rattle.vl_table.specs.declared.table.Table.{Table}
 use Rattle.vl_compact.proofs.replacing.into_level.Goals as goal
 

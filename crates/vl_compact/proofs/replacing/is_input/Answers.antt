@@ -1,7 +1,7 @@
 use Rattle.std.specs.Prelude.{◌==◌}
 use Rattle.std.specs.List.{list_any}
 use Rattle.std.proofs.Common.{◌∙◌, ℕ, ap}
-use Rattle.vl_block.specs.declared.shape.TableShape.{TableShape}
+use Rattle.vl_table.specs.declared.body.shape.TableShape.{TableShape}
 use Rattle.vl_compact.proofs.replacing.is_input.Goals as goal
 
 pub returns : goal.returns

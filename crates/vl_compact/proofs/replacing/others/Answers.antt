@@ -3,8 +3,8 @@ use Rattle.std.proofs.Common.{List, [], ◌+◌, subst, sym, take}
 use Rattle.vl_compact.proofs.Choices.{kept_next}
 use Rattle.vl_compact.proofs.Zips.{zip_all, zip_at}
 use Rattle.vl_compact.specs.Laid.{AreTablesOf, IsTableOf}
-use Rattle.vl_layout.specs.Levels.{is_among, without}
-use Rattle.vl_layout.specs.declared.table.Table as laid
+use Rattle.vl_engine_model.specs.Levels.{is_among, without}
+use Rattle.vl_engine_model.specs.declared.table.Table as laid
 use Rattle.vl_table.specs.declared.table.Table.{Table}
 use Rattle.vl_compact.proofs.replacing.others.Goals as goal
 

@@ -2,8 +2,8 @@ use Rattle.std.specs.Prelude.{map}
 use Rattle.std.specs.List.{AllZip}
 use Rattle.std.proofs.Common.{List, take}
 use Rattle.vl_compact.specs.Laid.{AreTablesOf}
-use Rattle.vl_layout.specs.Levels.{without}
-use Rattle.vl_layout.specs.declared.table.Table as laid
+use Rattle.vl_engine_model.specs.Levels.{without}
+use Rattle.vl_engine_model.specs.declared.table.Table as laid
 use Rattle.vl_compact.proofs.replacing.others_of_each.Given as goal
 
 abbrev pub invariant-loop-level : goal.invariant-loop-level

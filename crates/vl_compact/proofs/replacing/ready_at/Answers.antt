@@ -3,7 +3,7 @@ use Rattle.std.proofs.Common.{◌∙◌, List, length, sym, subst}
 use Rattle.vl_compact.proofs.Finding.{all_left, least_is, none_put}
 use Rattle.vl_compact.proofs.Zips.{zip_length}
 use Rattle.vl_compact.specs.Laid.{AreTablesOf, IsTableOf}
-use Rattle.vl_layout.specs.Levels.{level_at, without}
+use Rattle.vl_engine_model.specs.Levels.{level_at, without}
 use Rattle.vl_table.specs.declared.table.Table.{Table}
 use Rattle.vl_compact.proofs.replacing.ready_at.Goals as goal
 

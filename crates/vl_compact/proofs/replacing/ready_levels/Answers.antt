@@ -3,7 +3,7 @@ use Rattle.std.proofs.Common.{[], sym, subst}
 use Rattle.std.proofs.lemmas.Result.{IfOk-weaker}
 use Rattle.vl_compact.specs.Places.{HasPlace}
 use Rattle.vl_compact.specs.Replacing.{AreReady}
-use Rattle.vl_layout.specs.declared.job.Target.{Target}
+use Rattle.vl_engine_model.specs.declared.job.Target.{Target}
 use Rattle.vl_compact.proofs.replacing.ready_levels.Goals as goal
 
 pub returns-in-InPlace-clause-ready : goal.returns-in-InPlace-clause-ready

@@ -1,7 +1,7 @@
 use Rattle.std.proofs.Common.{List, ap, refl, ◌++◌, ◌∙◌}
 use Rattle.std.specs.Borrow.{Bor}
 use Rattle.std.specs.Prelude.{map}
-use Rattle.vl_block.specs.declared.footer.Footer.{Footer}
+use Rattle.vl_table.specs.declared.body.footer.Footer.{Footer}
 use Rattle.vl_engine.proofs.Footers.{levels_begin, levels_end, levels_next, points-append}
 use Rattle.vl_engine.proofs.collecting.footers_of.Goals as goal
 use Rattle.vl_engine.specs.Collecting.{points_in}

@@ -2,7 +2,7 @@ use Rattle.std.proofs.Common.{List, ap, refl, ◌++◌, ◌∙◌}
 use Rattle.std.specs.Borrow.{Bor}
 use Rattle.std.specs.List.{filter}
 use Rattle.std.specs.Prelude.{map}
-use Rattle.vl_block.specs.declared.footer.Footer.{Footer}
+use Rattle.vl_table.specs.declared.body.footer.Footer.{Footer}
 use Rattle.vl_engine.proofs.Footers.{levels_begin, levels_end, levels_next, some-append}
 use Rattle.vl_engine.proofs.collecting.input_footers.Goals as goal
 use Rattle.vl_engine.specs.Collecting.{points_in}

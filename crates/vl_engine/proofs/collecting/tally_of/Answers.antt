@@ -2,7 +2,7 @@ use Rattle.std.proofs.Common.{List, ap, ◌∙◌}
 use Rattle.std.proofs.lemmas.Result.{IfOk-weaker}
 use Rattle.std.specs.Borrow.{Bor}
 use Rattle.std.specs.Prelude.{map}
-use Rattle.vl_block.specs.declared.footer.Footer.{Footer}
+use Rattle.vl_table.specs.declared.body.footer.Footer.{Footer}
 use Rattle.vl_engine.proofs.Collected.{lengths_are_laid, points_are_laid}
 use Rattle.vl_engine.proofs.collecting.tally_of.Goals as goal
 use Rattle.vl_engine.specs.Collecting.{lengths_in, points_in}

@@ -1,5 +1,5 @@
 use Rattle.std.proofs.Common.{◌∙◌}
-use Rattle.vl_core.specs.laws.Merged.{merged_runs}
+use Rattle.vl_engine_laws.specs.laws.Merged.{merged_runs}
 use Rattle.vl_engine.proofs.flushing.entries_of.Goals as goal
 
 pub returns : goal.returns

@@ -1,5 +1,5 @@
 use Rattle.std.specs.Prelude.{◌≡◌, take}
-use Rattle.vl_layout.specs.Rulings.Relocate.{moves_at}
+use Rattle.vl_engine_model.specs.Rulings.Relocate.{moves_at}
 use Rattle.vl_engine.proofs.relocating.notes_of.Given as goal
 
 -- the keys of the records so far

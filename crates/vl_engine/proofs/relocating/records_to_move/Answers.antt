@@ -1,7 +1,7 @@
 use Rattle.std.proofs.Common.{ap, subst, ◌∙◌, ℕ}
 use Rattle.vl_collect.specs.Faults.{FailsLooking, MayWhere}
 use Rattle.vl_engine.proofs.RelocatingFound.{finds_by, kept_by, may_move, passed_on}
-use Rattle.vl_layout.specs.Relocation.{moved_of}
+use Rattle.vl_engine_model.specs.Relocation.{moved_of}
 use Rattle.vl_table.specs.CursorParts.{MayFailOn, is_disk_fault}
 use Rattle.vl_version.specs.Bases.{Fits}
 use Rattle.vl_version.specs.Sources.{tables_in}

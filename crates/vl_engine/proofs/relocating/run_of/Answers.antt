@@ -4,7 +4,7 @@ use Rattle.vl_engine.specs.Relocating.{move_entries_of}
 use Rattle.vl_model.specs.Entries.{in_order}
 use Rattle.vl_model.specs.declared.entry.Entry.{Entry}
 use Rattle.vl_model.specs.declared.log_frame.Moved.{Moved}
-use Rattle.vl_run.specs.laws.OrderLaws.{in_order-front}
+use Rattle.vl_model.specs.laws.OrderLaws.{in_order-front}
 use Rattle.vl_engine.proofs.relocating.run_of.Goals as goal
 
 pub loop-i-preserved : goal.loop-i-preserved

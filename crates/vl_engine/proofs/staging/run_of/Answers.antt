@@ -2,12 +2,12 @@ use Rattle.std.proofs.Common.{◌≡◌, ℕ, ◌++◌, ◌∷◌, [], List, add
 use Rattle.std.specs.FinMap.{entries, entries_sorted}
 use Rattle.vl_engine.proofs.Staged.{all_taken, as_many, entries_lead, one_entry_more}
 use Rattle.vl_engine.specs.Staging.{commit_entries}
-use Rattle.vl_core.specs.laws.MemtableLaws.{commit_in_order}
+use Rattle.vl_engine_laws.specs.laws.MemtableLaws.{commit_in_order}
 use Rattle.vl_model.specs.Formats.{log_format}
 use Rattle.vl_model.specs.declared.change.Change.{Change}
 use Rattle.vl_model.specs.declared.entry.Entry.{Entry}
 use Rattle.vl_model.specs.declared.pointer.Pointer.{Pointer}
-use Rattle.vl_run.specs.Order.{IsInOrder}
+use Rattle.vl_model.specs.EntryOrder.{IsInOrder}
 use Rattle.vl_engine.proofs.staging.run_of.Goals as goal
 
 pub loop-i-preserved : goal.loop-i-preserved

@@ -1,7 +1,7 @@
 use Rattle.std.proofs.Common.{◌≡◌, ◌+◌, ◌++◌, ℕ, List, ap, arith, length, sym, subst, ◌∙◌, ◌<◌}
 use Rattle.std.specs.FinMap.{entries}
 use Rattle.vl_engine.proofs.Staged.{is_commit, staged_entries, staged_new, staged_some}
-use Rattle.vl_layout.specs.Logs.{frame_entries}
+use Rattle.vl_engine_model.specs.Logs.{frame_entries}
 use Rattle.vl_memtable.specs.Contents.{IsNewTo}
 use Rattle.vl_model.specs.Entries.{in_order}
 use Rattle.vl_model.specs.Formats.{log_format}

@@ -1,5 +1,5 @@
 use Rattle.vl_disk.specs.declared.name.Name.TheVariants as names
-use Rattle.vl_core.specs.laws.Appending.{sync_stops, tells_all, tells_part}
+use Rattle.vl_engine_laws.specs.laws.Appending.{sync_stops, tells_all, tells_part}
 use Rattle.vl_engine.proofs.Lending.{leaves_append, leaves_sync, leaves_then, no_log}
 use Rattle.vl_engine.proofs.writing.append_durably.Goals as goal
 

@@ -1,5 +1,5 @@
 use Rattle.std.proofs.Common.{◌≡◌, map, take}
-use Rattle.vl_run.specs.Order.{along}
+use Rattle.vl_model.specs.EntryOrder.{along}
 use Rattle.vl_memtable.proofs.runs.cursors.Given as goal
 
 abbrev pub invariant-loop-run : goal.invariant-loop-run

@@ -1,5 +1,5 @@
 use Rattle.std.proofs.Common.{◌≡◌, map, take}
-use Rattle.vl_run.specs.Order.{along, within}
+use Rattle.vl_model.specs.EntryOrder.{along, within}
 use Rattle.vl_memtable.proofs.runs.cursors_within.Given as goal
 
 abbrev pub invariant-loop-run : goal.invariant-loop-run

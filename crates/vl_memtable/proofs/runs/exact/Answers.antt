@@ -1,6 +1,6 @@
 use Rattle.std.proofs.Common.{take, sym, ap, ◌∙◌}
 use Rattle.vl_model.specs.Winners.{exact}
-use Rattle.vl_run.specs.Lookups.{or_else}
+use Rattle.vl_model.specs.Lookups.{or_else}
 use Rattle.vl_memtable.specs.Contents.{all_of}
 use Rattle.vl_memtable.proofs.RunLists.{take_next, exact-push, exact-found}
 use Rattle.vl_memtable.proofs.runs.exact.Goals as goal

@@ -1,7 +1,7 @@
 use Rattle.std.proofs.Common.{◌≡◌, ◌*◌, ◌<◌, ◌++◌, ◌∷◌, [], length, drop, sym, ap, ◌∙◌, subst, arith}
 use Rattle.std.proofs.lemmas.List.{take_rest, get_or_default}
 use Rattle.vl_model.specs.Entries.{in_order}
-use Rattle.vl_run.specs.Order.{IsInOrder}
+use Rattle.vl_model.specs.EntryOrder.{IsInOrder}
 use Rattle.vl_memtable.specs.Contents.{all_of, AreRuns}
 use Rattle.vl_memtable.proofs.RunLists.{IsFinished, joins_first, joins_at, joined-entries, are_joined, finished_at, finished_past, all-drop}
 use Rattle.vl_memtable.proofs.runs.with.Goals as goal

@@ -1,5 +1,5 @@
 use Rattle.std.proofs.Common.{ap, ◌∙◌}
-use Rattle.vl_merge.specs.Merging.{merged}
+use Rattle.vl_model.specs.Merging.{merged}
 use Rattle.vl_merge.proofs.MergeLaws.{winner-merged, along-merged}
 use Rattle.vl_merge.specs.Visible.{shown}
 use Rattle.vl_merge.proofs.Orders.{visible-of_key, along-visible}

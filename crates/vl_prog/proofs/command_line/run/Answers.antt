@@ -1,23 +1,23 @@
 use Rattle.std.proofs.Common.{◌≡◌, ◌≢◌, ◌<◌, ◌≤◌, ⊎_elim, inl, inr, ℕ, Option, None, Some, refl, sym, ap, subst, ◌∙◌, arith}
 use Rattle.vl_mem.specs.declared.outcome.Outcome.{Outcome}
-use Rattle.vl_layout.specs.Store.Commits.{AreProper}
-use Rattle.vl_sequential.specs.Trial.{EndsTrial, begun}
-use Rattle.vl_sequential.specs.Trying.{trial_of}
-use Rattle.vl_sequential.specs.declared.words.Command.{Command}
-use Rattle.vl_sequential.specs.declared.words.Command.TheVariants.{Bench, Drive, Replay, Trial}
+use Rattle.vl_engine_model.specs.Store.Commits.{AreProper}
+use Rattle.vl_script_model.specs.Trial.{EndsTrial, begun}
+use Rattle.vl_script_model.specs.Trying.{trial_of}
+use Rattle.vl_script_model.specs.declared.words.Command.{Command}
+use Rattle.vl_script_model.specs.declared.words.Command.TheVariants.{Bench, Drive, Replay, Trial}
 use Rattle.vl_script.specs.Script.{lines_of}
-use Rattle.vl_sequential.specs.Endings.{CountsFaultsOf, TheDisk, TheSource, TheSink, status_of, usage_line}
+use Rattle.vl_script_model.specs.Endings.{CountsFaultsOf, TheDisk, TheSource, TheSink, status_of, usage_line}
 use Rattle.vl_disk.specs.Faults.{Rose}
 use Rattle.vl_disk.specs.declared.name.Name.{Name}
-use Rattle.vl_sequential.specs.Failing.{ByReader}
-use Rattle.vl_sequential.specs.Reading.{ReadsInput, streams}
-use Rattle.vl_sequential.specs.Start.{EndsAtTables, all_explained, explained_from}
-use Rattle.vl_sequential.specs.declared.ending.Ending.TheVariants.{Damaged, ReaderFault, Refused}
-use Rattle.vl_sequential.specs.declared.fails.Refusal.{Refusal}
-use Rattle.vl_sequential.specs.laws.Laws.{keeps_up_at_first}
-use Rattle.vl_sequential.specs.laws.WordLaws.{disk_steady, rose_or_unread, source_status, sink_status, is_refused, is_bad_words}
-use Rattle.vl_sequential.specs.laws.WordLaws.{rose_by, steady_by, refused_status, refused_rose, refused_steady}
-use Rattle.vl_sequential.specs.declared.ending.Ending.{Ending}
+use Rattle.vl_script_model.specs.Failing.{ByReader}
+use Rattle.vl_script_model.specs.Reading.{ReadsInput, streams}
+use Rattle.vl_script_model.specs.Start.{EndsAtTables, all_explained, explained_from}
+use Rattle.vl_script_model.specs.declared.ending.Ending.TheVariants.{Damaged, ReaderFault, Refused}
+use Rattle.vl_script_model.specs.declared.fails.Refusal.{Refusal}
+use Rattle.vl_script_model.specs.laws.Laws.{keeps_up_at_first}
+use Rattle.vl_script_model.specs.laws.WordLaws.{disk_steady, rose_or_unread, source_status, sink_status, is_refused, is_bad_words}
+use Rattle.vl_script_model.specs.laws.WordLaws.{rose_by, steady_by, refused_status, refused_rose, refused_steady}
+use Rattle.vl_script_model.specs.declared.ending.Ending.{Ending}
 use Rattle.vl_replay.specs.Benchmark.{PrintsSummary, summary_of}
 use Rattle.vl_prog.specs.Driving.{PrintsDriven}
 use Rattle.vl_replay.proofs.Benchmarks.{bench_ends}

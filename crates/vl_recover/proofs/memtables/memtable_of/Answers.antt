@@ -1,6 +1,6 @@
 use Rattle.std.proofs.Common.{sym, ap, ◌∙◌}
 use Rattle.vl_model.specs.Entries.{in_order}
-use Rattle.vl_run.specs.laws.OrderLaws.{in_order-again}
+use Rattle.vl_model.specs.laws.OrderLaws.{in_order-again}
 use Rattle.vl_recover.proofs.memtables.memtable_of.Goals as goal
 
 pub from_writes-requires : goal.from_writes-requires

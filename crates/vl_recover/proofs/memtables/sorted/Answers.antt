@@ -4,7 +4,7 @@ use Rattle.std.proofs.lemmas.Fn.{dedup_same}
 use Rattle.std.proofs.lemmas.List.Sorted.{answers_always, ranks_by}
 use Rattle.vl_model.specs.Entries.{entry_cmp}
 use Rattle.vl_model.specs.declared.entry.Entry.{Entry}
-use Rattle.vl_run.specs.laws.OrderLaws.{entry_total}
+use Rattle.vl_model.specs.laws.OrderLaws.{entry_total}
 use Rattle.vl_recover.proofs.opening.SortedOnce.{is_same, sorted-in_order}
 use Rattle.vl_recover.proofs.memtables.sorted.Goals as goal
 

@@ -10,8 +10,8 @@ use Rattle.vl_disk.specs.DiskState.{DiskState, File, settled}
 use Rattle.vl_disk.specs.declared.name.Name.{Name}
 use Rattle.vl_disk.specs.declared.name.Name.TheVariants.{Log}
 use Rattle.vl_disk.specs.laws.NameMap.{same_or_other}
-use Rattle.vl_layout.specs.Logs.{new_segment}
-use Rattle.vl_layout.specs.declared.segment.Segment.{Segment}
+use Rattle.vl_engine_model.specs.Logs.{new_segment}
+use Rattle.vl_engine_model.specs.declared.segment.Segment.{Segment}
 use Rattle.vl_model.specs.declared.log_frame.LogFrame.{LogFrame}
 use Rattle.vl_recover.specs.crash.Held.{IsIdle, IsNowhere, IsPassedOver, log_as_held}
 use Rattle.vl_recover.specs.crash.Starts.{OnlyIdleGone, WasIdle}

@@ -10,8 +10,8 @@ use Rattle.vl_disk.specs.DiskState.{DiskState}
 use Rattle.vl_disk.specs.MadeFile.{made}
 use Rattle.vl_disk.specs.declared.name.Name.{Name}
 use Rattle.vl_disk.specs.declared.name.Name.TheVariants.{Log, Manifest, Table}
-use Rattle.vl_layout.specs.Logs.{new_segment}
-use Rattle.vl_layout.specs.declared.segment.Segment.{Segment}
+use Rattle.vl_engine_model.specs.Logs.{new_segment}
+use Rattle.vl_engine_model.specs.declared.segment.Segment.{Segment}
 use Rattle.vl_manifest.specs.Current.{IsCurrent}
 use Rattle.vl_manifest.specs.Manifest.{SaysState, manifest_bytes}
 use Rattle.vl_manifest.specs.States.{whole_edits}

@@ -5,7 +5,7 @@ use Rattle.std.proofs.lemmas.Bool.{cases_lt}
 use Rattle.vl_disk.specs.Crash.{Image}
 use Rattle.vl_disk.specs.declared.name.Name.{Name}
 use Rattle.vl_disk.specs.declared.name.Name.TheVariants.{Log, Manifest, Table}
-use Rattle.vl_layout.specs.declared.segment.Segment.{Segment}
+use Rattle.vl_engine_model.specs.declared.segment.Segment.{Segment}
 use Rattle.vl_recover.specs.opening.Answers.{AreStrayNames, Finds, IsNotOpened, and_made, as_segments, calls_to_open, logs_then, used_up}
 use Rattle.vl_recover.specs.opening.Opening.{Opening, Opens, Refusal, StandingLogs}
 use Rattle.vl_recover.specs.laws.opening.OpeningLaws.{one_standing, single_opening}

@@ -4,7 +4,7 @@ use Rattle.std.specs.FinMap.{get}
 use Rattle.std.proofs.Common.{sym, ap, subst, ◌∙◌, arith, ⊎_elim}
 use Rattle.vl_disk.specs.Crash.{Image}
 use Rattle.vl_disk.specs.declared.name.Name.TheVariants.{Log, Table}
-use Rattle.vl_layout.specs.declared.segment.Segment.{Segment}
+use Rattle.vl_engine_model.specs.declared.segment.Segment.{Segment}
 use Rattle.vl_manifest.specs.laws.CurrentLaws as manifests
 use Rattle.vl_manifest.specs.laws.ManifestLaws.{one_saying}
 use Rattle.vl_manifest.specs.declared.state.ManifestState.{ManifestState}

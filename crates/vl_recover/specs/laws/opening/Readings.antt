@@ -7,12 +7,12 @@ use Rattle.vl_frame.specs.laws.HeaderLaws.{one_header}
 use Rattle.vl_frame.specs.laws.Laws.{one_frame}
 use Rattle.vl_frame.specs.declared.kinds.FileKind.TheVariants as files
 use Rattle.vl_frame.specs.declared.kinds.FrameKind.TheVariants as kinds
-use Rattle.vl_block.specs.Footer.{Foot, SpellsFooter}
-use Rattle.vl_block.specs.laws.FooterLaws.{one_footer}
-use Rattle.vl_block.specs.Index.{places}
-use Rattle.vl_block.specs.laws.ListLaws.{one_list}
-use Rattle.vl_block.specs.declared.footer_head.FramePlace.{FramePlace}
-use Rattle.vl_block.specs.declared.index.BlockPlace.{BlockPlace}
+use Rattle.vl_table.specs.body.Footer.{Foot, SpellsFooter}
+use Rattle.vl_table.specs.laws.FooterLaws.{one_footer}
+use Rattle.vl_table.specs.body.Index.{places}
+use Rattle.vl_table.specs.laws.ListLaws.{one_list}
+use Rattle.vl_table.specs.declared.body.footer_head.FramePlace.{FramePlace}
+use Rattle.vl_table.specs.declared.body.index.BlockPlace.{BlockPlace}
 use Rattle.vl_table.specs.Opening.{HasFooter, IsDamaged, IsRead, Said, StandsFilter, StandsFooter, StandsIndex}
 use Rattle.vl_table.specs.Opening.{no_filter, no_footer, no_header, no_index, no_place}
 use Rattle.vl_table.specs.Begun.{IsBegun, said_place}

@@ -7,7 +7,7 @@ use Rattle.vl_disk.specs.Crash.{WhileRemoving}
 use Rattle.vl_disk.specs.DiskState.{DiskState, File, without}
 use Rattle.vl_disk.specs.declared.name.Name.{Name}
 use Rattle.vl_disk.specs.declared.name.Name.TheVariants.{Log, Manifest}
-use Rattle.vl_layout.specs.declared.segment.Segment.{Segment}
+use Rattle.vl_engine_model.specs.declared.segment.Segment.{Segment}
 use Rattle.vl_manifest.specs.declared.state.ManifestState.{ManifestState}
 use Rattle.vl_recover.specs.crash.Alike.{OpensAsOf}
 use Rattle.vl_recover.specs.crash.Held.{HoldsLogs, View}

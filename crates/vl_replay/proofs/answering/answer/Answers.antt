@@ -3,18 +3,18 @@ use Rattle.std.specs.Prelude.{None, Some}
 use Rattle.std.specs.Prelude.{is_ok}
 use Rattle.vl_io.specs.Sink.{Takes, TakesPrefix}
 use Rattle.vl_disk.specs.Faults.{Rose}
-use Rattle.vl_sequential.specs.Runs.{next_number}
-use Rattle.vl_sequential.specs.Endings.{OnlyByDisk, TheSink, TheSource, culprit_of, disk_fault_line, ending_at, line_at}
-use Rattle.vl_sequential.specs.Endings.{no_memory_line, TheDisk}
-use Rattle.vl_sequential.specs.Halts.{HaltsByDisk}
+use Rattle.vl_script_model.specs.Runs.{next_number}
+use Rattle.vl_script_model.specs.Endings.{OnlyByDisk, TheSink, TheSource, culprit_of, disk_fault_line, ending_at, line_at}
+use Rattle.vl_script_model.specs.Endings.{no_memory_line, TheDisk}
+use Rattle.vl_script_model.specs.Halts.{HaltsByDisk}
 use Rattle.vl_replay.specs.Replaying.{disk_of}
-use Rattle.vl_sequential.specs.declared.ending.Ending.{Ending}
-use Rattle.vl_sequential.specs.declared.ending.Ending.TheVariants.{AnswerCut, BadWords, NoMemory, ReaderFault, Refused}
-use Rattle.vl_sequential.specs.laws.Ends.{answer_cut, finished, finish_counts, before_weaker, at_damage, at_fault}
-use Rattle.vl_sequential.specs.laws.Ends.{damage_counts, damage_counts_sink, ends_as, fault_as, fault_counts, fault_line}
-use Rattle.vl_sequential.specs.laws.Ends.{fault_stops, or_cut, otherwise_as, otherwise_counts, unread_stops}
-use Rattle.vl_sequential.specs.laws.Texts.{by_damage, by_read, halts, is_damage, is_unread, of_ok, ends_cut, ends_bad}
-use Rattle.vl_sequential.specs.laws.Texts.{ends_out, ends_fault, ends_unread}
+use Rattle.vl_script_model.specs.declared.ending.Ending.{Ending}
+use Rattle.vl_script_model.specs.declared.ending.Ending.TheVariants.{AnswerCut, BadWords, NoMemory, ReaderFault, Refused}
+use Rattle.vl_script_model.specs.laws.Ends.{answer_cut, finished, finish_counts, before_weaker, at_damage, at_fault}
+use Rattle.vl_script_model.specs.laws.Ends.{damage_counts, damage_counts_sink, ends_as, fault_as, fault_counts, fault_line}
+use Rattle.vl_script_model.specs.laws.Ends.{fault_stops, or_cut, otherwise_as, otherwise_counts, unread_stops}
+use Rattle.vl_script_model.specs.laws.Texts.{by_damage, by_read, halts, is_damage, is_unread, of_ok, ends_cut, ends_bad}
+use Rattle.vl_script_model.specs.laws.Texts.{ends_out, ends_fault, ends_unread}
 use Rattle.vl_replay.proofs.Runs.ReadingOn.{IsOtherwise, ends_for, ends_otherwise, finishes_damaged, finishes_otherwise, finishes_unread}
 use Rattle.vl_replay.proofs.answering.answer.Goals as goal
 

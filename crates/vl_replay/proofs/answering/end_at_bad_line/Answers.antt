@@ -1,11 +1,11 @@
 use Rattle.std.proofs.Common.{◌≡◌, ◌≢◌, ◌+◌, ◌++◌, arith, ◌∷◌, [], ◌∙◌, ℕ, List, refl, ap, subst}
 use Rattle.std.specs.Prelude.{codes}
 use Rattle.std.specs.Fmt.{decimal}
-use Rattle.vl_sequential.specs.Endings.{Evidence, bad_line, no_memory_line}
-use Rattle.vl_sequential.specs.Steps.{Finishes}
-use Rattle.vl_sequential.specs.declared.ending.Ending.{Ending}
-use Rattle.vl_sequential.specs.declared.ending.Ending.TheVariants.{BadLine, NoMemory, ReaderFault}
-use Rattle.vl_sequential.specs.laws.Ends.{finished, finish_counts, line_leaves_disk, or_cut, bad_line_stops, bad_line_text}
+use Rattle.vl_script_model.specs.Endings.{Evidence, bad_line, no_memory_line}
+use Rattle.vl_script_model.specs.Steps.{Finishes}
+use Rattle.vl_script_model.specs.declared.ending.Ending.{Ending}
+use Rattle.vl_script_model.specs.declared.ending.Ending.TheVariants.{BadLine, NoMemory, ReaderFault}
+use Rattle.vl_script_model.specs.laws.Ends.{finished, finish_counts, line_leaves_disk, or_cut, bad_line_stops, bad_line_text}
 use Rattle.vl_replay.proofs.Runs.ReadingOn.{finishes_badly, finishes_otherwise}
 use Rattle.vl_replay.proofs.answering.end_at_bad_line.Goals as goal
 

@@ -2,17 +2,17 @@ use Rattle.std.proofs.Common.{◌++◌, ℕ, List, length, sym, ap, ◌∙◌, a
 use Rattle.std.specs.Prelude.{Err, is_ok, is_err}
 use Rattle.std.specs.Option.{option_map}
 use Rattle.vl_script.specs.Script.{text_of}
-use Rattle.vl_sequential.specs.Exchanges.{exchanged}
+use Rattle.vl_script_model.specs.Exchanges.{exchanged}
 use Rattle.vl_replay.specs.Replaying.{disk_of}
-use Rattle.vl_sequential.specs.Sequential.{answer_to}
-use Rattle.vl_sequential.specs.declared.fails.Halt.TheVariants as why
-use Rattle.vl_sequential.specs.laws.AskingLaws.{line_asks}
-use Rattle.vl_sequential.specs.laws.Ends.{exchange_at-answered}
-use Rattle.vl_sequential.specs.laws.Halting.{by_disk_still, by_read_still, out_not_by_disk, out_readable}
-use Rattle.vl_sequential.specs.laws.Extending.{is_told_text}
-use Rattle.vl_sequential.specs.laws.Texts.{by_damage_still, by_reader_still, carries_nothing, carries_bad, carries_line}
-use Rattle.vl_sequential.specs.laws.Texts.{kept_without_number, of_ok, ok_not_err, ok_not_out, out_not_by_reader}
-use Rattle.vl_sequential.specs.laws.Texts.{out_undamaged, same_halt}
+use Rattle.vl_script_model.specs.Sequential.{answer_to}
+use Rattle.vl_script_model.specs.declared.fails.Halt.TheVariants as why
+use Rattle.vl_script_model.specs.laws.AskingLaws.{line_asks}
+use Rattle.vl_script_model.specs.laws.Ends.{exchange_at-answered}
+use Rattle.vl_script_model.specs.laws.Halting.{by_disk_still, by_read_still, out_not_by_disk, out_readable}
+use Rattle.vl_script_model.specs.laws.Extending.{is_told_text}
+use Rattle.vl_script_model.specs.laws.Texts.{by_damage_still, by_reader_still, carries_nothing, carries_bad, carries_line}
+use Rattle.vl_script_model.specs.laws.Texts.{kept_without_number, of_ok, ok_not_err, ok_not_out, out_not_by_reader}
+use Rattle.vl_script_model.specs.laws.Texts.{out_undamaged, same_halt}
 use Rattle.vl_replay.proofs.answering.execute_line.Goals as goal
 
 pub line-requires : goal.line-requires

@@ -4,8 +4,8 @@ use Rattle.std.specs.List.{AllByRecursion}
 use Rattle.vl_script.specs.Summary.{none_counted}
 use Rattle.vl_script.specs.declared.line.Line.{Line}
 use Rattle.vl_script.specs.declared.summary.Summary.{Summary}
-use Rattle.vl_sequential.specs.Asking.{AsksForRow}
-use Rattle.vl_sequential.specs.Trial.{begun}
+use Rattle.vl_script_model.specs.Asking.{AsksForRow}
+use Rattle.vl_script_model.specs.Trial.{begun}
 use Rattle.vl_replay.specs.Benchmark.{exchanges_of, summed}
 use Rattle.vl_replay.specs.Replaying.{disk_of}
 use Rattle.vl_replay.proofs.Benchmarks.{bench_asks, out_of_memory}

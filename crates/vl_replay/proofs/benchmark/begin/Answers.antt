@@ -1,7 +1,7 @@
 use Rattle.std.proofs.Common.{refl}
 use Rattle.std.specs.FinMap.{empty}
 use Rattle.vl_disk.specs.DiskState.{empty_disk}
-use Rattle.vl_sequential.specs.Trial.{begun}
+use Rattle.vl_script_model.specs.Trial.{begun}
 use Rattle.vl_replay.proofs.Benchmarks.{only_memory, starts, told}
 use Rattle.vl_replay.proofs.Trials.Reopening.{bare_read, steady_readers}
 use Rattle.vl_replay.proofs.benchmark.begin.Goals as goal

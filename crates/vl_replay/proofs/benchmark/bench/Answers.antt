@@ -1,7 +1,7 @@
 use Rattle.std.proofs.Common.{◌∙◌, inl, inr, List, ℕ, refl, subst}
-use Rattle.vl_sequential.specs.Steps.{Finishes}
-use Rattle.vl_sequential.specs.declared.ending.Ending.TheVariants.{Complete, NoMemory}
-use Rattle.vl_sequential.specs.laws.Ends.{finish_counts}
+use Rattle.vl_script_model.specs.Steps.{Finishes}
+use Rattle.vl_script_model.specs.declared.ending.Ending.TheVariants.{Complete, NoMemory}
+use Rattle.vl_script_model.specs.laws.Ends.{finish_counts}
 use Rattle.vl_replay.proofs.benchmark.bench.Goals as goal
 
 pub returns-in-Some-clause-prints : goal.returns-in-Some-clause-prints

@@ -1,9 +1,9 @@
 use Rattle.std.proofs.Common.{◌∙◌, ap, List, ◌∷◌, subst, sym}
 use Rattle.std.specs.List.{AllByRecursion}
 use Rattle.vl_script.specs.declared.line.Line.{Line}
-use Rattle.vl_sequential.specs.Asking.{AsksForRow}
-use Rattle.vl_sequential.specs.Sequential.{state_after}
-use Rattle.vl_sequential.specs.laws.Texts.{by_reader_still}
+use Rattle.vl_script_model.specs.Asking.{AsksForRow}
+use Rattle.vl_script_model.specs.Sequential.{state_after}
+use Rattle.vl_script_model.specs.laws.Texts.{by_reader_still}
 use Rattle.vl_replay.proofs.Benchmarks.{counts_one, first_of}
 use Rattle.vl_replay.proofs.benchmark.sum_up.Goals as goal
 

@@ -1,4 +1,4 @@
-use Rattle.vl_sequential.specs.Sequential.{history_of}
+use Rattle.vl_script_model.specs.Sequential.{history_of}
 use Rattle.vl_replay.specs.declared.carrying.Round.{Round}
 use Rattle.vl_replay.proofs.CarryingJob.{filling_failed, fits_kept, fits_same, fits_taken, has_same, left_under_way, lent_under_way}
 use Rattle.vl_replay.proofs.CarryingJob.{one_lent, reading_failed, refused_under_way, sound_filling, sound_reading, still_lent}

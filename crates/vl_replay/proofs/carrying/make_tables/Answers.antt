@@ -1,6 +1,6 @@
 use Rattle.std.specs.Prelude.{Ok}
 use Rattle.std.proofs.Common.{refl, ap, ◌∙◌}
-use Rattle.vl_core.specs.declared.kept.Core.{Core}
+use Rattle.vl_engine_laws.specs.declared.kept.Core.{Core}
 use Rattle.vl_replay.proofs.CarryingJob.{just_planned, lent_under_way, may_hand_in}
 use Rattle.vl_replay.proofs.CarryingTables.{all_made, halted, not_begun, one_so_far, out_is, planned_so_far, used_up}
 use Rattle.vl_engine.specs.Removing.{Removes}

@@ -1,8 +1,8 @@
 use Rattle.std.specs.Prelude.{◌≡◌, ◌-◌, ◌^◌, None}
-use Rattle.vl_layout.specs.declared.job.Job.{Job}
+use Rattle.vl_engine_model.specs.declared.job.Job.{Job}
 use Rattle.vl_replay.specs.Drawn.{IsPlanned}
 use Rattle.vl_replay.specs.Rounds.{HasLent}
-use Rattle.vl_sequential.specs.Sequential.{State}
+use Rattle.vl_script_model.specs.Sequential.{State}
 use Rattle.vl_engine.specs.Removing.{Removes}
 use Rattle.vl_replay.proofs.CarryingRemoved.{LeavesDrawn}
 use Rattle.vl_replay.proofs.CarryingTables.{SoFar}

@@ -3,7 +3,7 @@ use Rattle.std.specs.FinMap.{entries}
 use Rattle.vl_engine.specs.declared.view.View.{View}
 use Rattle.vl_model.specs.History.{contents_at}
 use Rattle.vl_model.specs.Keys.{Row}
-use Rattle.vl_sequential.specs.Contents.{AreRead, rows_at_once}
+use Rattle.vl_script_model.specs.Contents.{AreRead, rows_at_once}
 use Rattle.vl_replay.proofs.Trials.AllRows.{first_read, rows_are}
 use Rattle.vl_replay.proofs.contents.all_rows.Goals as goal
 

@@ -1,21 +1,21 @@
 use Rattle.std.proofs.Common.{◌≢◌, ◌∙◌, ℕ, List, refl, ap, arith, subst, sym}
 use Rattle.std.specs.Prelude.{Some}
-use Rattle.vl_sequential.specs.Endings.{EndsAs, Evidence, TheSource, culprit_of, no_memory_line}
-use Rattle.vl_sequential.specs.declared.ending.Ending.{Ending}
-use Rattle.vl_sequential.specs.declared.ending.OnFault.{OnFault}
-use Rattle.vl_sequential.specs.laws.Laws.{keeps_up_at_first}
-use Rattle.vl_sequential.specs.Reading.{HasRead, streams}
+use Rattle.vl_script_model.specs.Endings.{EndsAs, Evidence, TheSource, culprit_of, no_memory_line}
+use Rattle.vl_script_model.specs.declared.ending.Ending.{Ending}
+use Rattle.vl_script_model.specs.declared.ending.OnFault.{OnFault}
+use Rattle.vl_script_model.specs.laws.Laws.{keeps_up_at_first}
+use Rattle.vl_script_model.specs.Reading.{HasRead, streams}
 use Rattle.vl_replay.specs.Replaying.{StandsFor, disk_of}
-use Rattle.vl_sequential.specs.Runs.{script_of, outside}
-use Rattle.vl_sequential.specs.Steps.{kept}
-use Rattle.vl_sequential.specs.Stored.{IsStopped, IsStored}
-use Rattle.vl_core.specs.Shown.{Shown}
-use Rattle.vl_sequential.specs.declared.ending.Ending.TheVariants.{NoMemory, ReaderFault, Refused}
-use Rattle.vl_sequential.specs.laws.Ends.{counts_none, finish_counts, finished, line_leaves_disk, or_cut, otherwise_as, otherwise_counts}
-use Rattle.vl_sequential.specs.laws.ShownDisk.{shown_stays, stored_exactly}
+use Rattle.vl_script_model.specs.Runs.{script_of, outside}
+use Rattle.vl_script_model.specs.Steps.{kept}
+use Rattle.vl_script_model.specs.Stored.{IsStopped, IsStored}
+use Rattle.vl_engine_laws.specs.Shown.{Shown}
+use Rattle.vl_script_model.specs.declared.ending.Ending.TheVariants.{NoMemory, ReaderFault, Refused}
+use Rattle.vl_script_model.specs.laws.Ends.{counts_none, finish_counts, finished, line_leaves_disk, or_cut, otherwise_as, otherwise_counts}
+use Rattle.vl_script_model.specs.laws.ShownDisk.{shown_stays, stored_exactly}
 use Rattle.vl_replay.proofs.Runs.ReadingOn.{finished_otherwise, read_nothing, reads_nothing}
-use Rattle.vl_sequential.specs.laws.Stepping.{step_apart}
-use Rattle.vl_sequential.specs.laws.UnderWay.{UnderWay, begun, further, over}
+use Rattle.vl_script_model.specs.laws.Stepping.{step_apart}
+use Rattle.vl_script_model.specs.laws.UnderWay.{UnderWay, begun, further, over}
 use Rattle.vl_replay.proofs.running.answer_lines.Goals as goal
 
 pub returns-in_default-clause-runs : goal.returns-in_default-clause-runs

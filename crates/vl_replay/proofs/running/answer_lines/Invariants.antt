@@ -1,12 +1,12 @@
 use Rattle.std.proofs.Common.{◌≡◌, ◌+◌, ℕ, List, length, Some}
-use Rattle.vl_sequential.specs.Reading.{HasRead, streams}
+use Rattle.vl_script_model.specs.Reading.{HasRead, streams}
 use Rattle.vl_replay.specs.Replaying.{TakesLines, StandsFor, disk_of}
-use Rattle.vl_sequential.specs.Runs.{script_of, outside}
-use Rattle.vl_sequential.specs.Sequential.{State}
-use Rattle.vl_sequential.specs.Steps.{kept}
-use Rattle.vl_sequential.specs.Stored.{IsStored}
-use Rattle.vl_core.specs.Shown.{Shown}
-use Rattle.vl_sequential.specs.laws.UnderWay.{UnderWay}
+use Rattle.vl_script_model.specs.Runs.{script_of, outside}
+use Rattle.vl_script_model.specs.Sequential.{State}
+use Rattle.vl_script_model.specs.Steps.{kept}
+use Rattle.vl_script_model.specs.Stored.{IsStored}
+use Rattle.vl_engine_laws.specs.Shown.{Shown}
+use Rattle.vl_script_model.specs.laws.UnderWay.{UnderWay}
 use Rattle.vl_replay.proofs.running.answer_lines.Given as goal
 
 abbrev pub invariant-lines : goal.invariant-lines

@@ -3,22 +3,22 @@ use Rattle.vl_disk.specs.Faults.{Rose}
 use Rattle.vl_recover.specs.opening.Answers.{AnswersBy}
 use Rattle.vl_recover.specs.opening.Results.{recovery_by}
 use Rattle.vl_recover.specs.declared.fails.OpenError.{OpenError}
-use Rattle.vl_sequential.specs.Durable.{Tells}
-use Rattle.vl_sequential.specs.Endings.{CountsFaultsOf, TheDisk, culprit_of}
-use Rattle.vl_sequential.specs.declared.ending.Ending.{Ending}
-use Rattle.vl_sequential.specs.declared.ending.Ending.TheVariants.{DiskFault, ReaderFault, Stopped}
-use Rattle.vl_sequential.specs.laws.Laws.{keeps_up_at_first}
+use Rattle.vl_script_model.specs.Durable.{Tells}
+use Rattle.vl_script_model.specs.Endings.{CountsFaultsOf, TheDisk, culprit_of}
+use Rattle.vl_script_model.specs.declared.ending.Ending.{Ending}
+use Rattle.vl_script_model.specs.declared.ending.Ending.TheVariants.{DiskFault, ReaderFault, Stopped}
+use Rattle.vl_script_model.specs.laws.Laws.{keeps_up_at_first}
 use Rattle.vl_engine.specs.Opening.{IsFault}
-use Rattle.vl_core.specs.Found.{IsDurable}
-use Rattle.vl_sequential.specs.Reading.{streams}
+use Rattle.vl_engine_laws.specs.Found.{IsDurable}
+use Rattle.vl_script_model.specs.Reading.{streams}
 use Rattle.vl_replay.specs.Replaying.{disk_of}
-use Rattle.vl_sequential.specs.Runs.{script_of, outside}
-use Rattle.vl_sequential.specs.Sequential.{State}
-use Rattle.vl_sequential.specs.Start.{EndsAtTables, FailsAtTables}
-use Rattle.vl_sequential.specs.Stored.{IsStopped, IsStored}
-use Rattle.vl_core.specs.Shown.{Shown}
+use Rattle.vl_script_model.specs.Runs.{script_of, outside}
+use Rattle.vl_script_model.specs.Sequential.{State}
+use Rattle.vl_script_model.specs.Start.{EndsAtTables, FailsAtTables}
+use Rattle.vl_script_model.specs.Stored.{IsStopped, IsStored}
+use Rattle.vl_engine_laws.specs.Shown.{Shown}
 use Rattle.std.specs.Prelude.{IsTrue, Some, true, false}
-use Rattle.vl_sequential.specs.laws.ShownDisk.{shown_stays, stored_exactly}
+use Rattle.vl_script_model.specs.laws.ShownDisk.{shown_stays, stored_exactly}
 use Rattle.vl_replay.proofs.Runs.OpenedRuns.{again_openable, ends_opened, ends_refused, of_result, of_unopened}
 use Rattle.vl_replay.proofs.Runs.OpenedRuns.{refused, refused_nothing, refused_as, refused_line, not_for_words}
 use Rattle.vl_replay.proofs.Runs.OpenedRuns.{not_silent, out_of_memory, counts_sink, counts_source}

@@ -2,8 +2,8 @@ use Rattle.std.proofs.Common.{refl}
 use Rattle.std.specs.FinMap.{empty}
 use Rattle.vl_disk.specs.DiskState.{empty_disk}
 use Rattle.vl_mem.specs.contracts.steady_writer.SteadyWriterWriter.TheImpl as writing
-use Rattle.vl_sequential.specs.Trial.{begun}
-use Rattle.vl_sequential.specs.Trying.{all_told}
+use Rattle.vl_script_model.specs.Trial.{begun}
+use Rattle.vl_script_model.specs.Trying.{all_told}
 use Rattle.vl_replay.proofs.Trials.Reopening.{bare_read, counts_small, opened, starts, steady_readers, stopped, told}
 use Rattle.vl_replay.proofs.trying.begin.Goals as goal
 

@@ -1,7 +1,7 @@
 use Rattle.std.proofs.Common.{◌≡◌, refl, ◌∙◌, ℕ, subst, arith, true, false}
 use Rattle.std.specs.Prelude.{IsErr}
 use Rattle.vl_disk.specs.Faults.{HasCause}
-use Rattle.vl_sequential.specs.laws.PassingOver.{hands_all, hands_on}
+use Rattle.vl_script_model.specs.laws.PassingOver.{hands_all, hands_on}
 use Rattle.vl_replay.proofs.trying.pass_over.Goals as goal
 
 pub loop-init : goal.loop-init

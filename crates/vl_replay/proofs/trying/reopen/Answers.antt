@@ -1,13 +1,13 @@
 use Rattle.std.proofs.Common.{◌≡◌, inl, inr, refl, subst, sym, ◌∙◌, List, ℕ, true, false}
 use Rattle.vl_disk.specs.Started.{started_read}
-use Rattle.vl_layout.specs.Start.{layout_at_start}
-use Rattle.vl_core.specs.Found.{recovered}
+use Rattle.vl_engine_model.specs.Start.{layout_at_start}
+use Rattle.vl_engine_laws.specs.Found.{recovered}
 use Rattle.vl_mem.specs.CrashImage.{crash_image}
 use Rattle.vl_mem.specs.StoppingDisk.{state_on}
 use Rattle.vl_model.specs.History.{last_number}
 use Rattle.vl_model.specs.Limits.{max_room}
-use Rattle.vl_sequential.specs.Steps.{Finishes}
-use Rattle.vl_sequential.specs.declared.ending.Ending.TheVariants.{Complete}
+use Rattle.vl_script_model.specs.Steps.{Finishes}
+use Rattle.vl_script_model.specs.declared.ending.Ending.TheVariants.{Complete}
 use Rattle.vl_replay.proofs.Trials.Reopening.{memory_line, only_memory}
 use Rattle.vl_replay.proofs.Trials.TrialEnds.{not_by_disk}
 use Rattle.vl_replay.proofs.trying.reopen.Goals as goal

@@ -1,17 +1,17 @@
 use Rattle.std.proofs.Common.{◌≡◌, ◌≢◌, ◌≤◌, arith, true, false, sym, ◌∙◌}
 use Rattle.vl_mem.specs.contracts.steady_writer.SteadyWriterWriter.TheImpl as writing
 use Rattle.vl_mem.specs.contracts.stopping_disk.StoppingDiskWatched.TheImpl as memory
-use Rattle.vl_sequential.specs.Failing.{Beside, ByReader, ByWriter, ReaderFailed, beside}
+use Rattle.vl_script_model.specs.Failing.{Beside, ByReader, ByWriter, ReaderFailed, beside}
 use Rattle.vl_replay.specs.Replaying.{StandsFor, disk_of}
-use Rattle.vl_sequential.specs.Runs.{outside}
-use Rattle.vl_sequential.specs.Trial.{begun}
-use Rattle.vl_sequential.specs.Trying.{all_told, trial_of}
-use Rattle.vl_sequential.specs.declared.ending.Ending.{Ending}
-use Rattle.vl_sequential.specs.declared.ending.Ending.TheVariants.{ReaderFault}
+use Rattle.vl_script_model.specs.Runs.{outside}
+use Rattle.vl_script_model.specs.Trial.{begun}
+use Rattle.vl_script_model.specs.Trying.{all_told, trial_of}
+use Rattle.vl_script_model.specs.declared.ending.Ending.{Ending}
+use Rattle.vl_script_model.specs.declared.ending.Ending.TheVariants.{ReaderFault}
 use Rattle.vl_replay.proofs.Runs.OpenedRuns.{of_unopened}
 use Rattle.vl_replay.proofs.Trials.Reopening.{memory_line}
 use Rattle.vl_replay.proofs.Trials.TrialEnds.{comes_nowhere, of_ended, stopped_opening, stops_by_fault, stops_by_memory}
-use Rattle.vl_sequential.specs.laws.TrialRun.{comes}
+use Rattle.vl_script_model.specs.laws.TrialRun.{comes}
 use Rattle.vl_replay.proofs.trying.run_to_stop.Goals as goal
 
 not_both : true ≡ false → ⊥

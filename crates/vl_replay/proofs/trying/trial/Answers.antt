@@ -1,12 +1,12 @@
 use Rattle.std.proofs.Common.{◌≡◌, ⊎_elim, inl, [], Some, refl, sym, subst, ◌∙◌, true, false}
-use Rattle.vl_sequential.specs.Sequential.{history_of}
-use Rattle.vl_sequential.specs.Endings.{read_fault_line}
-use Rattle.vl_sequential.specs.Steps.{Finishes}
-use Rattle.vl_sequential.specs.Trial.{reopened_state}
-use Rattle.vl_sequential.specs.Trying.{ComesTo, ReopensAs, trial_of}
+use Rattle.vl_script_model.specs.Sequential.{history_of}
+use Rattle.vl_script_model.specs.Endings.{read_fault_line}
+use Rattle.vl_script_model.specs.Steps.{Finishes}
+use Rattle.vl_script_model.specs.Trial.{reopened_state}
+use Rattle.vl_script_model.specs.Trying.{ComesTo, ReopensAs, trial_of}
 use Rattle.vl_model.specs.History.{last_number}
-use Rattle.vl_sequential.specs.declared.ending.Ending.{Ending}
-use Rattle.vl_sequential.specs.declared.ending.Ending.TheVariants.{ReadFault}
+use Rattle.vl_script_model.specs.declared.ending.Ending.{Ending}
+use Rattle.vl_script_model.specs.declared.ending.Ending.TheVariants.{ReadFault}
 use Rattle.vl_replay.proofs.Trials.TrialEnds.{ends_reopened, ends_so, ends_source, no_fault}
 use Rattle.vl_replay.proofs.trying.trial.Goals as goal
 

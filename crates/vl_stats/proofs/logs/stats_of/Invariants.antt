@@ -1,5 +1,5 @@
 use Rattle.std.proofs.Common.{◌≡◌, map, take}
-use Rattle.vl_layout.specs.Rulings.Stats.{told}
+use Rattle.vl_engine_model.specs.Rulings.Stats.{told}
 use Rattle.vl_stats.specs.Tallies.{stat_by}
 use Rattle.vl_stats.proofs.logs.stats_of.Given as goal
 

@@ -1,6 +1,6 @@
 use Rattle.std.proofs.Common.{◌≡◌, ◌≤◌, nat_lt, drop, length, map}
 use Rattle.std.specs.List.{filter}
-use Rattle.vl_layout.specs.Garbage.{best_of, is_worth}
+use Rattle.vl_engine_model.specs.Garbage.{best_of, is_worth}
 use Rattle.vl_stats.specs.Tallies.{share_by}
 use Rattle.vl_stats.proofs.shares.best_below.Given as goal
 

@@ -2,7 +2,7 @@ use Rattle.std.proofs.Common.{take}
 use Rattle.std.specs.List.{sum_by}
 use Rattle.std.specs.Ordering.{nat_cmp}
 use Rattle.std.specs.BTreeMap.{get}
-use Rattle.vl_layout.specs.Garbage.{pointed_bytes}
+use Rattle.vl_engine_model.specs.Garbage.{pointed_bytes}
 use Rattle.vl_stats.specs.Sums.{Takes, HasNoEmpty}
 use Rattle.vl_stats.proofs.sums.take_footers.Given as goal
 

@@ -2,9 +2,9 @@ use Rattle.std.proofs.Common.{Bool, true, false}
 use Rattle.std.specs.Prelude.{nat_le, length, if◌then◌else◌}
 use Rattle.vl_model.specs.History.{last_number}
 use Rattle.vl_model.specs.Limits.{max_live}
-use Rattle.vl_layout.specs.Ruling.{Ruling, leaving}
-use Rattle.vl_layout.specs.Rulings.Begin.{BeginAnswer, Begun, TooMany, begun}
-use Rattle.vl_layout.specs.Tickets.{free_ticket, tickets_of}
+use Rattle.vl_engine_model.specs.Ruling.{Ruling, leaving}
+use Rattle.vl_engine_model.specs.Rulings.Begin.{BeginAnswer, Begun, TooMany, begun}
+use Rattle.vl_engine_model.specs.Tickets.{free_ticket, tickets_of}
 use Rattle.vl_stats.specs.Tallies.{IsTally, Tallied}
 use Rattle.vl_stats.proofs.tally_laws.other_calls_leave_a_tally.Goals as goal
 

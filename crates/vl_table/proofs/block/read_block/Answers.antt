@@ -1,7 +1,7 @@
 use Rattle.std.proofs.Common.{◌≡◌, ◌++◌, ◌∙◌, ℕ, List, ap, sym, refl, subst, arith, drop, length, take}
 use Rattle.std.proofs.lemmas.List.{take_at}
-use Rattle.vl_block.specs.Blocks.{SpellsBlock, SpellsWalked}
-use Rattle.vl_block.specs.Starts.{AreStarts}
+use Rattle.vl_table.specs.body.Blocks.{SpellsBlock, SpellsWalked}
+use Rattle.vl_table.specs.body.Starts.{AreStarts}
 use Rattle.vl_table.proofs.OpenSteps.{begins}
 use Rattle.std.proofs.lemmas.List.{length-take-le}
 use Rattle.vl_frame.specs.declared.kinds.FrameKind.TheVariants as kinds

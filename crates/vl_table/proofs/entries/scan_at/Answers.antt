@@ -1,9 +1,9 @@
 use Rattle.std.proofs.Common.{◌≡◌, true, false, refl, sym, ap, ◌∙◌, Some, List, ℕ}
 use Rattle.std.proofs.lemmas.Map.Text.{is_eq-slice_cmp}
 use Rattle.vl_model.specs.laws.WinnerLaws.{same_key}
-use Rattle.vl_block.specs.Entries.{entry_of}
-use Rattle.vl_block.specs.Founds.{found_of}
-use Rattle.vl_run.specs.laws.Lookup.{of_key}
+use Rattle.vl_table.specs.body.Entries.{entry_of}
+use Rattle.vl_table.specs.body.Founds.{found_of}
+use Rattle.vl_model.specs.laws.Lookup.{of_key}
 use Rattle.vl_table.proofs.entries.scan_at.Goals as goal
 
 pub returns-then-eq : goal.returns-then-eq

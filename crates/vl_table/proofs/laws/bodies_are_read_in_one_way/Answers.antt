@@ -1,5 +1,5 @@
-use Rattle.vl_block.specs.laws.BlockLaws.{one_block, one_index}
-use Rattle.vl_block.specs.laws.FooterLaws.{one_footer}
+use Rattle.vl_table.specs.laws.BlockLaws.{one_block, one_index}
+use Rattle.vl_table.specs.laws.FooterLaws.{one_footer}
 use Rattle.vl_table.proofs.laws.bodies_are_read_in_one_way.Goals as goal
 
 pub returns-clause-block : goal.returns-clause-block

@@ -1,4 +1,4 @@
-use Rattle.vl_block.specs.laws.Lengths.{length-table_bytes}
+use Rattle.vl_table.specs.laws.Lengths.{length-table_bytes}
 use Rattle.vl_table.proofs.laws.tables_have_their_length.Goals as goal
 
 pub returns : goal.returns

@@ -1,5 +1,5 @@
 use Rattle.std.proofs.Common.{sym, subst, List, ℕ}
-use Rattle.vl_block.specs.Footer.{SpellsFooter}
+use Rattle.vl_table.specs.body.Footer.{SpellsFooter}
 use Rattle.vl_frame.specs.laws.Laws.{one_frame}
 use Rattle.vl_frame.specs.declared.kinds.FileKind.TheVariants as files
 use Rattle.vl_frame.specs.declared.kinds.FrameKind.TheVariants as kinds

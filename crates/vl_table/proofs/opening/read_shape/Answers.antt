@@ -7,14 +7,14 @@ use Rattle.vl_table.specs.Opening.{IsDamaged, IsRead, said_by}
 use Rattle.vl_table.specs.OpeningParts.{HasParts}
 use Rattle.vl_table.proofs.OpeningSteps.{is_read, opened}
 use Rattle.vl_table.proofs.PartFaults.{place_fails}
-use Rattle.vl_table.specs.declared.fault.TableFault.{TableFault}
-use Rattle.vl_block.specs.declared.shape.TableShape.{TableShape}
+use Rattle.vl_disk.specs.declared.read_fault.ReadFault.{ReadFault}
+use Rattle.vl_table.specs.declared.body.shape.TableShape.{TableShape}
 use Rattle.vl_table.proofs.opening.read_shape.Goals as goal
 
 pub returns-in_err-place-clause-answers : goal.returns-in_err-place-clause-answers
 returns-in_err-place-clause-answers g c =
     let p = err_from_is_err_and c.from_residual-in_err-place.result c.from_residual-in_err-place.ensures.1 in
-    subst (λ (r : Result (TableShape) TableFault). Answers (g.R.Reader.faults c.args.reader.now)
+    subst (λ (r : Result (TableShape) ReadFault). Answers (g.R.Reader.faults c.args.reader.now)
     (g.R.Reader.faults c.read_place.new.reader) c.args.number (g.H.HeldFile.bytes c.args.held.now)
     (λ bytes table. IsRead c.args.number bytes (said_by table)) (IsDamaged c.args.number) r) (sym (p.1 ∙ ap Err p.2))
     (place_fails _ _ _ c.in_ok-format.format c.args.number (g.H.HeldFile.bytes c.args.held.now) c.in_err-place.field-0.0
@@ -24,7 +24,7 @@ returns-in_err-place-clause-answers g c =
 pub returns-in_err-parts-clause-answers : goal.returns-in_err-parts-clause-answers
 returns-in_err-parts-clause-answers g c =
     let p = err_from_is_err_and c.from_residual-in_err-parts.result c.from_residual-in_err-parts.ensures.1 in
-    subst (λ (r : Result (TableShape) TableFault). Answers (g.R.Reader.faults c.args.reader.now)
+    subst (λ (r : Result (TableShape) ReadFault). Answers (g.R.Reader.faults c.args.reader.now)
     (g.R.Reader.faults c.read_parts.new.reader) c.args.number (g.H.HeldFile.bytes c.args.held.now)
     (λ bytes table. IsRead c.args.number bytes (said_by table)) (IsDamaged c.args.number) r) (sym (p.1 ∙ ap Err p.2))
     (fails _ _ c.args.number (g.H.HeldFile.bytes c.args.held.now) _ _ (IsDamaged c.args.number)

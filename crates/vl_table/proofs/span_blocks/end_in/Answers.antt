@@ -1,6 +1,6 @@
 use Rattle.std.proofs.Common.{rules}
 use Rattle.std.proofs.lemmas.List.Sorted.{IsPartitionPoint-from_clause}
-use Rattle.vl_run.specs.laws.Places.{parted_at, point-prefix}
+use Rattle.vl_model.specs.laws.Places.{parted_at, point-prefix}
 use Rattle.vl_table.proofs.SpanParts.{parted_from}
 use Rattle.vl_table.specs.SpanBlocks.{ends_within}
 use Rattle.vl_table.proofs.span_blocks.end_in.Goals as goal

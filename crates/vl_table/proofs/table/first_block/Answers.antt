@@ -1,8 +1,8 @@
 use Rattle.std.proofs.Common.{rules}
 use Rattle.std.proofs.lemmas.List.Sorted.{IsPartitionPoint-from_clause}
-use Rattle.vl_block.specs.declared.index.BlockPlace.{BlockPlace}
-use Rattle.vl_run.specs.laws.Places.{parted_at, point-prefix}
-use Rattle.vl_run.specs.Lookups.{is_below}
+use Rattle.vl_table.specs.declared.body.index.BlockPlace.{BlockPlace}
+use Rattle.vl_model.specs.laws.Places.{parted_at, point-prefix}
+use Rattle.vl_model.specs.Lookups.{is_below}
 use Rattle.vl_table.proofs.table.first_block.Goals as goal
 
 pub returns-clause-first : goal.returns-clause-first

@@ -1,6 +1,6 @@
 use Rattle.std.proofs.Common.{◌++◌, sym, subst, List}
 use Rattle.std.specs.FinMap.{entries}
-use Rattle.vl_block.specs.Cutting.{joined}
+use Rattle.vl_model.specs.Cutting.{joined}
 use Rattle.vl_memtable.specs.declared.frozen_log.FrozenLog.{FrozenLog}
 use Rattle.vl_model.specs.declared.span.Span.{Span}
 use Rattle.vl_version.specs.Gathered.{Adds, IsQuiet}

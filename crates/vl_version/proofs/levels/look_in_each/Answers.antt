@@ -4,7 +4,7 @@ use Rattle.std.proofs.Common.{◌∙◌, ◌∷◌, [], ap, ◌+◌, suc, List, 
 use Rattle.std.proofs.lemmas.List.{take_all}
 use Rattle.std.proofs.lemmas.Result.{err_from_is_err_and}
 use Rattle.std.proofs.Common.{subst}
-use Rattle.vl_block.specs.Founds.{found_of}
+use Rattle.vl_table.specs.body.Founds.{found_of}
 use Rattle.vl_table.specs.declared.table.Table.{Table}
 use Rattle.vl_version.specs.levels.LookedUp.{LooksOn, LooksThrough}
 use Rattle.vl_version.proofs.looking.LooksSoFar.{fails_there, looks_on, stops_there}

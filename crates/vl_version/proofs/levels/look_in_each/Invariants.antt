@@ -1,6 +1,6 @@
 use Rattle.std.proofs.Common.{◌≡◌, take}
 use Rattle.std.specs.Option.{option_map}
-use Rattle.vl_block.specs.Founds.{found_of}
+use Rattle.vl_table.specs.body.Founds.{found_of}
 use Rattle.vl_table.specs.Kept.{Files}
 use Rattle.vl_table.specs.KeptBlocks.{ReadsOf}
 use Rattle.vl_version.proofs.looking.LooksSoFar.{SoFar}

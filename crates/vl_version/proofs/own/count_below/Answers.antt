@@ -1,7 +1,7 @@
 use Rattle.std.proofs.Common.{rules, ℕ, List}
 use Rattle.std.proofs.lemmas.List.Sorted.{IsPartitionPoint-from_clause}
 use Rattle.vl_model.specs.declared.change.Change.{Change}
-use Rattle.vl_run.specs.laws.Places.{parted_at, point-prefix}
+use Rattle.vl_model.specs.laws.Places.{parted_at, point-prefix}
 use Rattle.vl_version.specs.Own.{is_key_below}
 use Rattle.vl_version.proofs.CutLaws.{parted}
 use Rattle.vl_version.proofs.own.count_below.Goals as goal

@@ -1,6 +1,6 @@
 use Rattle.std.proofs.Common.{ap, sym, Some}
-use Rattle.vl_block.specs.Founds.{found_body, found_of, short_of}
-use Rattle.vl_block.specs.declared.found.FoundBody.{FoundBody}
+use Rattle.vl_table.specs.body.Founds.{found_body, found_of, short_of}
+use Rattle.vl_table.specs.declared.body.found.FoundBody.{FoundBody}
 use Rattle.vl_model.specs.Winners.{resolved}
 use Rattle.vl_version.specs.Sources.{stored_in}
 use Rattle.vl_version.proofs.PutLaws.{put_found}

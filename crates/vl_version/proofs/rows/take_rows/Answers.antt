@@ -7,8 +7,8 @@ use Rattle.vl_model.specs.declared.entry.Entry.{Entry}
 use Rattle.vl_version.specs.Answers.{IsAnswer, IsAstray}
 use Rattle.vl_version.specs.Rows.{AreRowsOf, OneAstray, PushesRow}
 use Rattle.vl_version.specs.Sources.{stored_in}
-use Rattle.vl_version.specs.declared.fault.ReadFault.{ReadFault}
-use Rattle.vl_version.specs.declared.fault.ReadFault.TheVariants.{Damaged}
+use Rattle.vl_disk.specs.declared.read_fault.ReadFault.{ReadFault}
+use Rattle.vl_disk.specs.declared.read_fault.ReadFault.TheVariants.{Damaged}
 use Rattle.vl_version.proofs.TakeLaws.{TakesFront, astray_next, err_answer, leaves_near, next_kept, takes_all}
 use Rattle.vl_version.proofs.TakeLaws.{takes_end, takes_next, takes_none}
 use Rattle.vl_version.proofs.rows.take_rows.Goals as goal

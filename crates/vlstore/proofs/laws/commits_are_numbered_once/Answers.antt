@@ -1,4 +1,4 @@
-use Rattle.vl_layout.specs.LockHistory.{nothing_open}
+use Rattle.vl_engine_model.specs.LockHistory.{nothing_open}
 use Rattle.vlstore.proofs.Counted.{puts_counted}
 use Rattle.vlstore.proofs.laws.commits_are_numbered_once.Goals as goal
 

@@ -6,7 +6,7 @@ use Rattle.vl_back.specs.Tables.{AreSpellable}
 use Rattle.vl_model.specs.Cursors.{Gives}
 use Rattle.vl_model.specs.Placement.{placed}
 use Rattle.vl_model.specs.declared.entry.Entry.{Entry}
-use Rattle.vl_table_writer.specs.Writing.{IsWriting}
+use Rattle.vl_table.specs.writer.Writing.{IsWriting}
 
 pub returns-in_err-first-clause-lawful : goal.returns-in_err-first-clause-lawful
 returns-in_err-first-clause-lawful g c = λ es told tabled. no_memory c.from_residual.result c.from_residual.ensures.1

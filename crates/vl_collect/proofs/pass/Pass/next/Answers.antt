@@ -2,7 +2,7 @@ use Rattle.std.proofs.Common.{List, ap, subst, ◌∙◌}
 use Rattle.vl_collect.proofs.pass.Pass.next.Goals as goal
 use Rattle.vl_collect.specs.Passing.{Walks}
 use Rattle.vl_collect.specs.declared.batch.Found.{Found}
-use Rattle.vl_layout.specs.Relocation.{if_any}
+use Rattle.vl_engine_model.specs.Relocation.{if_any}
 
 pub returns-clause-gives : goal.returns-clause-gives
 returns-clause-gives g c = λ p fits is.

@@ -6,7 +6,7 @@ use Rattle.vl_collect.proofs.Walking.{Walked}
 use Rattle.vl_collect.proofs.pass.Pass.walk.Given as goal
 use Rattle.vl_collect.specs.Faults.{NoneRose, counted}
 use Rattle.vl_collect.specs.Passing.{EndAt, IsPass}
-use Rattle.vl_layout.specs.Relocation as layout
+use Rattle.vl_engine_model.specs.Relocation as layout
 
 abbrev pub invariant-loop-at : goal.invariant-loop-at
 invariant-loop-at g l = record {

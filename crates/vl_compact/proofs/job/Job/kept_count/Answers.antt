@@ -3,8 +3,8 @@ use Rattle.std.specs.Prelude.{min}
 use Rattle.vl_compact.proofs.Making.{counted_by}
 use Rattle.vl_compact.specs.Racing.{entry_count}
 use Rattle.vl_compact.specs.declared.files.Synced.{Synced}
-use Rattle.vl_layout.specs.Merging.{merged_entries, outputs}
-use Rattle.vl_layout.specs.laws.TableLaws.{cut-whole}
+use Rattle.vl_engine_model.specs.Merging.{merged_entries, outputs}
+use Rattle.vl_engine_model.specs.laws.TableLaws.{cut-whole}
 use Rattle.vl_compact.proofs.job.Job.kept_count.Goals as goal
 
 pub returns : goal.returns

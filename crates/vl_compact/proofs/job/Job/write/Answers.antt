@@ -1,7 +1,7 @@
 use Rattle.vl_compact.proofs.Making.{fresh_bytes, left_told, rules_of, synced_fills}
 use Rattle.vl_compact.specs.Keys.{behind}
 use Rattle.vl_compact.specs.laws.BehindLaws.{along-merged}
-use Rattle.vl_layout.specs.Merging.{inputs_of}
+use Rattle.vl_engine_model.specs.Merging.{inputs_of}
 use Rattle.vl_compact.proofs.job.Job.write.Goals as goal
 
 pub returns-clause-fills : goal.returns-clause-fills

@@ -2,7 +2,7 @@ use Rattle.std.proofs.Common.{◌≡◌, ◌≤◌, List, Some}
 use Rattle.vl_compact.proofs.keeping.Keeping.next.Given as goal
 use Rattle.vl_compact.specs.Keeps.{AreRulesOf, Walked, stage}
 use Rattle.vl_compact.specs.Reading.{NoneRose, counts}
-use Rattle.vl_layout.specs.declared.job.Job as laid
+use Rattle.vl_engine_model.specs.declared.job.Job as laid
 use Rattle.vl_model.specs.declared.entry.Entry.{Entry}
 
 abbrev pub invariant-walking : goal.invariant-walking

@@ -2,7 +2,7 @@ use Rattle.std.proofs.Common.{◌≡◌, ◌+◌, arith, length}
 use Rattle.std.specs.Prelude.{vec_capacity, vec_len}
 use Rattle.vl_compact.proofs.PutLaws.{next_is, next_there, put_next, room_less}
 use Rattle.vl_compact.proofs.ready.ReadyLevels.put.Goals as goal
-use Rattle.vl_layout.specs.Levels.{level_at, without}
+use Rattle.vl_engine_model.specs.Levels.{level_at, without}
 
 pub returns-clause-put : goal.returns-clause-put
 returns-clause-put g c = λ target inputs first ls new t are is.

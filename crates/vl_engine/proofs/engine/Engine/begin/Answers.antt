@@ -2,9 +2,9 @@ use Rattle.std.proofs.Common.{subst}
 use Rattle.vl_engine.proofs.Beginning.{refused_so}
 use Rattle.vl_engine.proofs.Pinned.{refused_pins}
 use Rattle.vl_engine.specs.Removing.{Removes}
-use Rattle.vl_layout.specs.Decides.{Decides, Outcome, as_before, no_effects}
-use Rattle.vl_layout.specs.Rulings.Begin.{BeginAnswer, begin_ruling}
-use Rattle.vl_layout.specs.declared.layout.Layout.{Layout}
+use Rattle.vl_engine_model.specs.Decides.{Decides, Outcome, as_before, no_effects}
+use Rattle.vl_engine_model.specs.Rulings.Begin.{BeginAnswer, begin_ruling}
+use Rattle.vl_engine_model.specs.declared.layout.Layout.{Layout}
 use Rattle.vl_engine.proofs.engine.Engine.begin.Goals as goal
 
 pub returns-in_err-alloc-clause-removes : goal.returns-in_err-alloc-clause-removes

@@ -9,13 +9,13 @@ use Rattle.vl_engine.proofs.engine.Engine.begin_chosen.Goals as goal
 use Rattle.vl_engine.specs.Removing.{Removes}
 use Rattle.vl_engine.specs.Planning.{IsChosen}
 use Rattle.vl_engine.specs.Merging.{HasMerge, StandsOpen}
-use Rattle.vl_core.specs.Represents.{Represents}
-use Rattle.vl_core.specs.MayStep.{Fits}
-use Rattle.vl_core.specs.declared.kept.Core.{Core}
-use Rattle.vl_layout.specs.Ruling.{Ruling}
-use Rattle.vl_layout.specs.Rulings.Plan.{with_job}
-use Rattle.vl_layout.specs.declared.job.Job.{Job}
-use Rattle.vl_layout.specs.declared.layout.Layout.{Layout}
+use Rattle.vl_engine_laws.specs.Represents.{Represents}
+use Rattle.vl_engine_laws.specs.MayStep.{Fits}
+use Rattle.vl_engine_laws.specs.declared.kept.Core.{Core}
+use Rattle.vl_engine_model.specs.Ruling.{Ruling}
+use Rattle.vl_engine_model.specs.Rulings.Plan.{with_job}
+use Rattle.vl_engine_model.specs.declared.job.Job.{Job}
+use Rattle.vl_engine_model.specs.declared.layout.Layout.{Layout}
 
 pub returns-in_ok-begin_merge-in-Some-clause-stands : goal.returns-in_ok-begin_merge-in-Some-clause-stands
 returns-in_ok-begin_merge-in-Some-clause-stands g c h l ruling is chosen =

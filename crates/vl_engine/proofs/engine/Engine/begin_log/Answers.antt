@@ -7,9 +7,9 @@ use Rattle.vl_engine.proofs.Begins.{begins_making, begins_nothing, keeps_making,
 use Rattle.vl_engine.proofs.Begins.{next_version, none_known, same_back, still_numbered, stops_making, then_numbered}
 use Rattle.vl_engine.proofs.Fitting.{fit_halted}
 use Rattle.vl_engine.proofs.Lending.{leaves_made, leaves_then, still_lent}
-use Rattle.vl_core.specs.laws.RotateFit.{fit_rotated, stands_still}
-use Rattle.vl_core.specs.RotateFacts.{at_hold}
-use Rattle.vl_core.specs.RotateFacts.{IsNextBack, IsSameBack}
+use Rattle.vl_engine_laws.specs.laws.RotateFit.{fit_rotated, stands_still}
+use Rattle.vl_engine_laws.specs.RotateFacts.{at_hold}
+use Rattle.vl_engine_laws.specs.RotateFacts.{IsNextBack, IsSameBack}
 use Rattle.vl_manifest.specs.declared.state.ManifestState.{ManifestState}
 use Rattle.vl_memtable.specs.Contents.{Contents}
 use Rattle.vl_seglog.specs.declared.active.ActiveLog.{ActiveLog}

@@ -2,7 +2,7 @@ use Rattle.std.proofs.Common.{◌≡◌, ap, arith, refl, subst, sym, true, Some
 use Rattle.vl_engine.proofs.Fitting.{fit_still}
 use Rattle.vl_engine.proofs.Planning.{none_lent}
 use Rattle.vl_engine.proofs.StillThere.{leaves_none, there_begun, there_told}
-use Rattle.vl_core.specs.Known.{are_known}
+use Rattle.vl_engine_laws.specs.Known.{are_known}
 use Rattle.vl_version.specs.declared.version.Version.{Version}
 use Rattle.vl_engine.proofs.UnderWay.{just_planned}
 use Rattle.vl_engine.proofs.engine.Engine.begin_merge.Goals as goal

@@ -1,6 +1,6 @@
 use Rattle.std.proofs.Common.{◌≡◌, ap, arith, refl, subst, sym, true, ◌∙◌}
 use Rattle.vl_collect.specs.Passing.{Begins}
-use Rattle.vl_core.specs.Known.{are_known}
+use Rattle.vl_engine_laws.specs.Known.{are_known}
 use Rattle.vl_engine.proofs.Collected.{found_same}
 use Rattle.vl_engine.proofs.Fitting.{fit_still}
 use Rattle.vl_engine.proofs.StillThere.{leaves_none, there_told}

@@ -1,15 +1,15 @@
 use Rattle.std.proofs.Common.{ap, refl, ◌∙◌}
 use Rattle.vl_disk.specs.declared.name.Name.TheVariants.{Table}
-use Rattle.vl_core.specs.laws.Carrying.{IsWatched}
+use Rattle.vl_engine_laws.specs.laws.Carrying.{IsWatched}
 use Rattle.vl_engine.proofs.UnderWay.{handed_in, one_more, quiet_draw, still_way, unfilled_way, unlent_way}
 use Rattle.vl_engine.proofs.Whole.{drawn_runs, fails, fits_asked, fits_roomy, fits_taken, has_all, has_same, is_fresh}
 use Rattle.vl_engine.proofs.Whole.{made_more, made_more_with, starts, unbegun, unfilled, unfilled_with, unlent, unlent_with}
 use Rattle.vl_engine.specs.Drawing.{lent_new}
 use Rattle.vl_engine.specs.Removing.{Removes}
-use Rattle.vl_core.specs.declared.kept.Core.{Core}
-use Rattle.vl_layout.specs.Decides.{no_effects}
-use Rattle.vl_layout.specs.Rulings.Fresh as fresh
-use Rattle.vl_layout.specs.declared.layout.Layout.{Layout}
+use Rattle.vl_engine_laws.specs.declared.kept.Core.{Core}
+use Rattle.vl_engine_model.specs.Decides.{no_effects}
+use Rattle.vl_engine_model.specs.Rulings.Fresh as fresh
+use Rattle.vl_engine_model.specs.declared.layout.Layout.{Layout}
 use Rattle.vl_model.specs.History.{History}
 use Rattle.vl_engine.proofs.engine.Engine.carry_out.Goals as goal
 

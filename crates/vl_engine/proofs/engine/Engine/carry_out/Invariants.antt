@@ -1,12 +1,12 @@
 use Rattle.std.specs.Prelude.{◌≡◌, Some}
 use Rattle.vl_engine.proofs.Whole.{IsMaking}
 use Rattle.vl_engine.specs.Merging.{FitsReaders, HasMerge, StandsOpen}
-use Rattle.vl_core.specs.Represents.{Represents}
-use Rattle.vl_core.specs.MayStep.{Fits}
+use Rattle.vl_engine_laws.specs.Represents.{Represents}
+use Rattle.vl_engine_laws.specs.MayStep.{Fits}
 use Rattle.vl_engine.specs.Removing.{Removes}
 use Rattle.vl_engine.specs.UnderWay.{IsUnderWay}
-use Rattle.vl_layout.specs.declared.job.OpenJob.{OpenJob}
-use Rattle.vl_layout.specs.declared.layout.Layout.{Layout}
+use Rattle.vl_engine_model.specs.declared.job.OpenJob.{OpenJob}
+use Rattle.vl_engine_model.specs.declared.layout.Layout.{Layout}
 use Rattle.vl_model.specs.History.{History}
 use Rattle.vl_engine.proofs.engine.Engine.carry_out.Given as goal
 

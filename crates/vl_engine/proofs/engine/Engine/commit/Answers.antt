@@ -4,17 +4,17 @@ use Rattle.vl_engine.proofs.Committing.{carries_unwritten, decides_leaving}
 use Rattle.vl_engine.proofs.Fitted.{written_by}
 use Rattle.vl_engine.proofs.Ruled.{carries_by, carries_refused_by, decides_by, failed_by, files_by, no_conflict_by}
 use Rattle.vl_engine.proofs.Ruled.{ruling_so, stands_by, stops_by, unwritten_here}
-use Rattle.vl_core.specs.laws.Untouched.{alone}
+use Rattle.vl_engine_laws.specs.laws.Untouched.{alone}
 use Rattle.vl_engine.proofs.engine.Engine.commit.Goals as goal
-use Rattle.vl_core.specs.Represents.{Fronts, StandsFor, file_of}
-use Rattle.vl_core.specs.MayStep.{Fits}
+use Rattle.vl_engine_laws.specs.Represents.{Fronts, StandsFor, file_of}
+use Rattle.vl_engine_laws.specs.MayStep.{Fits}
 use Rattle.vl_front.specs.declared.decision.Decision.TheVariants as decisions
-use Rattle.vl_layout.specs.Ruling.{ended}
-use Rattle.vl_layout.specs.Rulings.Commit as answers
+use Rattle.vl_engine_model.specs.Ruling.{ended}
+use Rattle.vl_engine_model.specs.Rulings.Commit as answers
 use Rattle.vl_engine.proofs.Untold.{commit_untold}
 use Rattle.vl_engine.proofs.WriteRemoved.{removes_by, stock_by}
 use Rattle.vl_engine.specs.Removing.{Removes}
-use Rattle.vl_layout.specs.declared.layout.Layout.{Layout}
+use Rattle.vl_engine_model.specs.declared.layout.Layout.{Layout}
 use Rattle.vl_model.specs.declared.counter.Counter.TheVariants as counters
 
 pub returns-in_default-clause-carries : goal.returns-in_default-clause-carries

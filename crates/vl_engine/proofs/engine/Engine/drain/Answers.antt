@@ -2,7 +2,7 @@ use Rattle.std.proofs.Common.{sym, ◌∙◌}
 use Rattle.vl_engine.proofs.BegunRemoved.{stock_planned}
 use Rattle.vl_engine.proofs.Planning.{drain_chosen}
 use Rattle.vl_engine.proofs.engine.Engine.drain.Goals as goal
-use Rattle.vl_layout.specs.Rulings.Drain.{drain_ruling}
+use Rattle.vl_engine_model.specs.Rulings.Drain.{drain_ruling}
 
 pub returns-in-Ok-clause-stands : goal.returns-in-Ok-clause-stands
 returns-in-Ok-clause-stands g c h l is =

@@ -1,12 +1,12 @@
 use Rattle.std.proofs.Common.{refl, not, subst, sym}
 use Rattle.std.specs.List.{filter}
 use Rattle.std.specs.Prelude.{◌==◌}
-use Rattle.vl_core.specs.laws.Knowing.{knows_of}
-use Rattle.vl_core.specs.laws.Represented.{represents_live}
-use Rattle.vl_core.specs.laws.Standing.{fronts_ended, stands_ended}
+use Rattle.vl_engine_laws.specs.laws.Knowing.{knows_of}
+use Rattle.vl_engine_laws.specs.laws.Represented.{represents_live}
+use Rattle.vl_engine_laws.specs.laws.Standing.{fronts_ended, stands_ended}
 use Rattle.vl_engine.proofs.Stepped.{fits_live}
 use Rattle.vl_engine.proofs.StillRemoved.{removes_live}
-use Rattle.vl_layout.specs.declared.live.Live.{Live}
+use Rattle.vl_engine_model.specs.declared.live.Live.{Live}
 use Rattle.vl_pins.specs.Pins.{ArePinsOf}
 use Rattle.vl_pins.specs.declared.pins.Pins.{Pins}
 use Rattle.vl_pins.specs.laws.PinLaws.{pins_ended}

@@ -1,8 +1,8 @@
 use Rattle.std.specs.Prelude.{None}
-use Rattle.vl_core.specs.Pointed.{layout_logs}
+use Rattle.vl_engine_laws.specs.Pointed.{layout_logs}
 use Rattle.vl_engine.proofs.PassLaws.{fits_passing, represents_passing, stands_passing}
 use Rattle.vl_engine.proofs.engine.Engine.end_pass.Goals as goal
-use Rattle.vl_layout_laws.specs.laws.TidyRulings.{end_pass_tidy}
+use Rattle.vl_engine_model_laws.specs.laws.TidyRulings.{end_pass_tidy}
 
 pub returns-clause-stands : goal.returns-clause-stands
 returns-clause-stands g c h l p is = record {

@@ -8,18 +8,18 @@ use Rattle.vl_engine.proofs.Fitted.{flushed_by}
 use Rattle.vl_engine.proofs.Flushed.{calls_by, carries_by, carries_leaving_flush, fronts_by, ruled_exhausted}
 use Rattle.vl_engine.proofs.Flushed.{ruled_halted, ruled_idle, runs_on, stands_by, stopped_by, untouched_by}
 use Rattle.vl_engine.proofs.Flushed.{writes_by, written_by}
-use Rattle.vl_core.specs.laws.FlushKeeps.{kept_itself}
+use Rattle.vl_engine_laws.specs.laws.FlushKeeps.{kept_itself}
 use Rattle.vl_engine.proofs.FlushSteps.{leaves_numbers, numbers_held}
 use Rattle.vl_engine.proofs.Leaving.{flush_within}
-use Rattle.vl_core.specs.laws.Untouched.{alone}
-use Rattle.vl_core.specs.Represents.{Fronts, StandsFor, file_of}
-use Rattle.vl_core.specs.MayStep.{Fits}
-use Rattle.vl_core.specs.laws.FlushRulings.{flush_waits}
+use Rattle.vl_engine_laws.specs.laws.Untouched.{alone}
+use Rattle.vl_engine_laws.specs.Represents.{Fronts, StandsFor, file_of}
+use Rattle.vl_engine_laws.specs.MayStep.{Fits}
+use Rattle.vl_engine_laws.specs.laws.FlushRulings.{flush_waits}
 use Rattle.vl_engine.specs.Collecting.{Collects}
 use Rattle.vl_engine.specs.Flushing.{flush_effects}
-use Rattle.vl_layout.specs.Decides.{as_before}
-use Rattle.vl_layout.specs.Ruling.{Exhausted, Halted, Idle}
-use Rattle.vl_layout.specs.Rulings.Flush.{flush_ruling}
+use Rattle.vl_engine_model.specs.Decides.{as_before}
+use Rattle.vl_engine_model.specs.Ruling.{Exhausted, Halted, Idle}
+use Rattle.vl_engine_model.specs.Rulings.Flush.{flush_ruling}
 use Rattle.vl_engine.proofs.Untold.{flush_untold}
 use Rattle.vl_engine.proofs.engine.Engine.flush.Goals as goal
 

@@ -5,11 +5,11 @@ use Rattle.vl_engine.proofs.KeptBy.{carries_by, carries_left, carries_same, fits
 use Rattle.vl_engine.proofs.KeepRemoved.{removes_by}
 use Rattle.vl_engine.proofs.KeptBy.{left_same, ruled_halted, ruled_invalid, stands_by, switched_by, within_by}
 use Rattle.vl_engine.proofs.KeptBy.{written_by}
-use Rattle.vl_core.specs.KeepFacts.{MayKeep}
-use Rattle.vl_core.specs.Represents.{Fronts, StandsFor, file_of}
-use Rattle.vl_core.specs.MayStep.{Fits}
-use Rattle.vl_layout.specs.Decides.{as_before}
-use Rattle.vl_layout.specs.Rulings.Keep.{Halted, InvalidRequest, keep_ruling}
+use Rattle.vl_engine_laws.specs.KeepFacts.{MayKeep}
+use Rattle.vl_engine_laws.specs.Represents.{Fronts, StandsFor, file_of}
+use Rattle.vl_engine_laws.specs.MayStep.{Fits}
+use Rattle.vl_engine_model.specs.Decides.{as_before}
+use Rattle.vl_engine_model.specs.Rulings.Keep.{Halted, InvalidRequest, keep_ruling}
 use Rattle.vl_engine.proofs.Untold.{keep_untold}
 use Rattle.vl_engine.proofs.engine.Engine.keep.Goals as goal
 

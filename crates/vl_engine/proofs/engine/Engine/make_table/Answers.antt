@@ -1,5 +1,5 @@
 use Rattle.std.proofs.Common.{◌≡◌, Global, List, Vec, [], ap, arith, refl, sym, ◌++◌, ◌∙◌, ◌∷◌, ℕ}
-use Rattle.vl_block.specs.declared.shape.TableShape.{TableShape}
+use Rattle.vl_table.specs.declared.body.shape.TableShape.{TableShape}
 use Rattle.vl_engine.proofs.Collected.{keeps_readied, leads_same}
 use Rattle.vl_engine.proofs.Switching.{has_flushed}
 use Rattle.std.specs.List.{filter}
@@ -10,11 +10,11 @@ use Rattle.vl_table.specs.declared.table.Table.{Table}
 use Rattle.vl_version.specs.levels.LevelTables.{all_tables}
 use Rattle.std.specs.Prelude.{None, Some}
 use Rattle.vl_disk.specs.declared.name.Name.TheVariants as names
-use Rattle.vl_core.specs.laws.FlushKeeps.{changed_by, failed_then, fit_flushed, fit_unflushed, kept_from, next_then}
-use Rattle.vl_core.specs.laws.FlushKeeps.{still_told, stops_by, writes_by}
+use Rattle.vl_engine_laws.specs.laws.FlushKeeps.{changed_by, failed_then, fit_flushed, fit_unflushed, kept_from, next_then}
+use Rattle.vl_engine_laws.specs.laws.FlushKeeps.{still_told, stops_by, writes_by}
 use Rattle.vl_engine.proofs.Lending.{leaves_then, leaves_written, still_lent}
-use Rattle.vl_core.specs.Fit.{IsFitFor}
-use Rattle.vl_core.specs.Known.{are_known}
+use Rattle.vl_engine_laws.specs.Fit.{IsFitFor}
+use Rattle.vl_engine_laws.specs.Known.{are_known}
 use Rattle.vl_manifest.specs.declared.manifest_log.ManifestLog.{ManifestLog}
 use Rattle.vl_manifest.specs.declared.state.ManifestState.{ManifestState}
 use Rattle.vl_memtable.specs.Contents.{Contents}

@@ -2,9 +2,9 @@ use Rattle.std.proofs.Common.{Global, Ok, Option, Some, Vec, ap, refl, subst, sy
 use Rattle.vl_seglog.specs.declared.sealed.SealedLog.{SealedLog}
 use Rattle.vl_compact.specs.Progress.{made_of}
 use Rattle.vl_disk.specs.declared.errors.NoMemory.{NoMemory}
-use Rattle.vl_core.specs.laws.Carrying.{IsWatched}
+use Rattle.vl_engine_laws.specs.laws.Carrying.{IsWatched}
 use Rattle.vl_engine.proofs.UnderWay.{handed_back_way, just_planned, none_open}
-use Rattle.vl_core.specs.declared.kept.Core.{Core}
+use Rattle.vl_engine_laws.specs.declared.kept.Core.{Core}
 use Rattle.vl_engine.proofs.MergeRemoved.{given_up_removing, install_unpinned, is_halted, not_put_in, put_in_removing}
 use Rattle.vl_engine.proofs.MergeRemoved.{untouched_removing, was_put_in}
 use Rattle.vl_engine.proofs.Whole.{begun, begun_with, collects_so, given_up, given_up_collecting, goes_on, none_kept, put_in}
@@ -16,10 +16,10 @@ use Rattle.vl_engine.specs.Pinning.{PinsMerge}
 use Rattle.vl_engine.specs.Removing.{Removes}
 use Rattle.vl_engine.specs.Whole.{kept_of}
 use Rattle.vl_engine.specs.declared.open.Collecting.{Collecting}
-use Rattle.vl_layout.specs.Jobs.{AreLent}
-use Rattle.vl_layout.specs.Rulings.Plan.{plan_ruling}
-use Rattle.vl_layout.specs.declared.job.Job.{Job}
-use Rattle.vl_layout.specs.declared.layout.Layout.{Layout}
+use Rattle.vl_engine_model.specs.Jobs.{AreLent}
+use Rattle.vl_engine_model.specs.Rulings.Plan.{plan_ruling}
+use Rattle.vl_engine_model.specs.declared.job.Job.{Job}
+use Rattle.vl_engine_model.specs.declared.layout.Layout.{Layout}
 use Rattle.vl_model.specs.History.{History}
 use Rattle.vl_engine.proofs.engine.Engine.merge.Goals as goal
 

@@ -1,5 +1,5 @@
 use Rattle.std.proofs.Common.{◌≤◌, arith, ap, length, sym, ◌∙◌}
-use Rattle.vl_core.specs.MoveFacts.{move_length}
+use Rattle.vl_engine_laws.specs.MoveFacts.{move_length}
 use Rattle.vl_engine.proofs.RelocatingWritten.{no_name, relocated_by, some_left}
 use Rattle.vl_engine.proofs.engine.Engine.move_again.Goals as goal
 

@@ -1,20 +1,20 @@
 use Rattle.std.proofs.Common.{refl, ap, subst, sym, ◌∙◌}
 use Rattle.std.specs.Prelude.{List, max}
 use Rattle.vl_disk.specs.Moments.{waits}
-use Rattle.vl_core.specs.laws.FitsAtStart.{opened_fits}
-use Rattle.vl_core.specs.laws.Opened.{opened_back, opened_core, opened_fit, opened_numbered, opened_represents}
-use Rattle.vl_core.specs.laws.Opened.{opened_stands, opening_through, opens_still}
+use Rattle.vl_engine_laws.specs.laws.FitsAtStart.{opened_fits}
+use Rattle.vl_engine_laws.specs.laws.Opened.{opened_back, opened_core, opened_fit, opened_numbered, opened_represents}
+use Rattle.vl_engine_laws.specs.laws.Opened.{opened_stands, opening_through, opens_still}
 use Rattle.vl_engine.proofs.engine.Engine.open.Goals as goal
-use Rattle.vl_core.specs.Found.{recovered}
-use Rattle.vl_core.specs.Known.{are_known}
+use Rattle.vl_engine_laws.specs.Found.{recovered}
+use Rattle.vl_engine_laws.specs.Known.{are_known}
 use Rattle.vl_engine.proofs.OpenedThere.{opened_there}
 use Rattle.vl_engine.proofs.Readable.{begun_readable}
 use Rattle.vl_engine.proofs.StartRemoved.{removes_at_start}
 use Rattle.vl_engine.proofs.TallyBegun.{sealed_begun}
 use Rattle.vl_engine.specs.Collecting.{AreSealed}
-use Rattle.vl_layout.specs.Start.{layout_at_start}
+use Rattle.vl_engine_model.specs.Start.{layout_at_start}
 use Rattle.vl_seglog.specs.declared.sealed.SealedLog.{SealedLog}
-use Rattle.vl_core.specs.Found.{AreLeveled}
+use Rattle.vl_engine_laws.specs.Found.{AreLeveled}
 use Rattle.vl_memtable.specs.Contents.{Contents}
 use Rattle.vl_recover.specs.opening.Intact.{LeavesIntact}
 

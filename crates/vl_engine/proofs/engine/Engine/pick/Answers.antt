@@ -1,8 +1,8 @@
 use Rattle.std.proofs.Common.{Option, Some, ap, refl, subst, sym, ◌∙◌}
-use Rattle.vl_core.specs.MayStep.{Fits}
-use Rattle.vl_core.specs.Pointed.{layout_logs}
-use Rattle.vl_core.specs.Represents.{Represents}
-use Rattle.vl_core.specs.declared.kept.Core.{Core}
+use Rattle.vl_engine_laws.specs.MayStep.{Fits}
+use Rattle.vl_engine_laws.specs.Pointed.{layout_logs}
+use Rattle.vl_engine_laws.specs.Represents.{Represents}
+use Rattle.vl_engine_laws.specs.declared.kept.Core.{Core}
 use Rattle.vl_engine.proofs.BegunRemoved.{removes_kept, removes_picked, stock_picked}
 use Rattle.vl_engine.proofs.Collected.{collects_kept, head_is_laid, keeps_readied}
 use Rattle.vl_engine.proofs.Committing.{decides_leaving}
@@ -14,12 +14,12 @@ use Rattle.vl_engine.specs.Collecting.{Collects, pick_outcome}
 use Rattle.vl_engine.specs.Merging.{StandsOpen}
 use Rattle.vl_engine.specs.Pinning.{PinsPass}
 use Rattle.vl_engine.specs.Removing.{Removes}
-use Rattle.vl_layout.specs.declared.layout.Layout.{Layout}
+use Rattle.vl_engine_model.specs.declared.layout.Layout.{Layout}
 use Rattle.vl_disk.specs.DiskState.{DiskState}
 use Rattle.vl_engine.specs.declared.open.OpenMerge.{OpenMerge}
-use Rattle.vl_layout.specs.Decides.{Decides, as_before, no_effects}
-use Rattle.vl_layout.specs.Ruling.{pin_of}
-use Rattle.vl_layout.specs.Rulings.Pick.{NoRewrite, pick_ruling}
+use Rattle.vl_engine_model.specs.Decides.{Decides, as_before, no_effects}
+use Rattle.vl_engine_model.specs.Ruling.{pin_of}
+use Rattle.vl_engine_model.specs.Rulings.Pick.{NoRewrite, pick_ruling}
 
 pub returns-in-None-clause-stands : goal.returns-in-None-clause-stands
 returns-in-None-clause-stands g c h l is has =

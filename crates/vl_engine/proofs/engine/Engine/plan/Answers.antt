@@ -2,7 +2,7 @@ use Rattle.std.proofs.Common.{sym, ◌∙◌}
 use Rattle.vl_engine.proofs.BegunRemoved.{stock_planned}
 use Rattle.vl_engine.proofs.Planning.{plan_chosen}
 use Rattle.vl_engine.proofs.engine.Engine.plan.Goals as goal
-use Rattle.vl_layout.specs.Rulings.Plan.{plan_ruling}
+use Rattle.vl_engine_model.specs.Rulings.Plan.{plan_ruling}
 
 pub returns-in-Ok-clause-stands : goal.returns-in-Ok-clause-stands
 returns-in-Ok-clause-stands g c h l is =

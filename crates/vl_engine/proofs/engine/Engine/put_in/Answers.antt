@@ -4,7 +4,7 @@ use Rattle.vl_disk.specs.declared.name.Name.TheVariants as names
 use Rattle.vl_engine.proofs.HandedIn.{made_given, may_take_all}
 use Rattle.vl_engine.proofs.HeldLogs.{holds_needed}
 use Rattle.vl_engine.specs.Collecting.{idle_in}
-use Rattle.vl_core.specs.laws.InstallDiskEdits.{install_next}
+use Rattle.vl_engine_laws.specs.laws.InstallDiskEdits.{install_next}
 use Rattle.vl_engine.proofs.Lending.{leaves_told, no_manifest, still_lent}
 use Rattle.std.specs.List.{filter}
 use Rattle.std.specs.Prelude.{None, length, map, ◌++◌}
@@ -22,9 +22,9 @@ use Rattle.vl_engine.proofs.Retired.There.{there_quiet, there_used}
 use Rattle.vl_engine.proofs.Switching.{has_put_in, readied_self}
 use Rattle.vl_engine.proofs.PutIn.{fit_installed, fit_uninstalled, none_open, quiet_then}
 use Rattle.vl_engine.specs.Installing.{InstallsAll, StopsInstalling}
-use Rattle.vl_core.specs.Known.{are_known}
+use Rattle.vl_engine_laws.specs.Known.{are_known}
 use Rattle.vl_engine.specs.Taking.{MayTakeAll}
-use Rattle.vl_layout.specs.Levels.{replaced}
+use Rattle.vl_engine_model.specs.Levels.{replaced}
 use Rattle.vl_engine.proofs.engine.Engine.put_in.Goals as goal
 
 -- memory was wanting

@@ -1,5 +1,5 @@
 use Rattle.std.proofs.Common.{◌≡◌, ℕ, None, Some, Ok, Err, ap, subst, ◌∙◌, arith, refl, true, false}
-use Rattle.vl_core.specs.declared.kept.Core.{Core}
+use Rattle.vl_engine_laws.specs.declared.kept.Core.{Core}
 use Rattle.vl_engine.proofs.There.Swept.{more_gone, taken_fit, taken_lent, taken_there}
 use Rattle.vl_engine.proofs.There.Swept.{has_swept, taken_waits}
 use Rattle.vl_engine.specs.Sweeping.{HasSwept}

@@ -1,16 +1,16 @@
 use Rattle.std.proofs.Common.{◌≡◌, ℕ, ap, refl, sym, subst, true, ◌∙◌}
 use Rattle.vl_engine.proofs.Beginning.{began_as, decides_begun, decides_refused, has_room, is_full, last_begun, sees_now, ticket_is}
 use Rattle.vl_engine.proofs.Fitting.{fit_still}
-use Rattle.vl_core.specs.laws.Knowing.{knows_of}
-use Rattle.vl_core.specs.laws.Represented.{represents_live}
-use Rattle.vl_core.specs.laws.Standing.{fronts_begun, stands_begun}
+use Rattle.vl_engine_laws.specs.laws.Knowing.{knows_of}
+use Rattle.vl_engine_laws.specs.laws.Represented.{represents_live}
+use Rattle.vl_engine_laws.specs.laws.Standing.{fronts_begun, stands_begun}
 use Rattle.vl_engine.proofs.Stepped.{fits_back, fits_live}
-use Rattle.vl_core.specs.Known.{are_known}
-use Rattle.vl_core.specs.LiesOver.{IsInMemory}
-use Rattle.vl_core.specs.Represents.{Fronts, Represents, StandsFor}
+use Rattle.vl_engine_laws.specs.Known.{are_known}
+use Rattle.vl_engine_laws.specs.LiesOver.{IsInMemory}
+use Rattle.vl_engine_laws.specs.Represents.{Fronts, Represents, StandsFor}
 use Rattle.vl_front.specs.declared.front.Front.{Front}
-use Rattle.vl_layout.specs.Rulings.Begin.{begun}
-use Rattle.vl_layout.specs.Tickets.{free_ticket, tickets_of}
+use Rattle.vl_engine_model.specs.Rulings.Begin.{begun}
+use Rattle.vl_engine_model.specs.Tickets.{free_ticket, tickets_of}
 use Rattle.vl_model.specs.History.{last_number}
 use Rattle.vl_oracle.specs.LiveTickets.{LiveTickets}
 use Rattle.vl_seglog.specs.declared.active.ActiveLog.{ActiveLog}

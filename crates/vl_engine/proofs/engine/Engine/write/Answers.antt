@@ -11,8 +11,8 @@ use Rattle.vl_engine.proofs.StillThere.{there_still, there_told}
 use Rattle.vl_engine.proofs.There.Kept.{same_stand}
 use Rattle.vl_engine.proofs.Untold.{untold_by}
 use Rattle.vl_engine.proofs.Written.{changed_by, hands_by, known_then, knows_alike, longer, stopped_by}
-use Rattle.vl_core.specs.Fit.{IsFitFor}
-use Rattle.vl_core.specs.Known.{are_known}
+use Rattle.vl_engine_laws.specs.Fit.{IsFitFor}
+use Rattle.vl_engine_laws.specs.Known.{are_known}
 use Rattle.vl_oracle.specs.LiveTickets as oracle
 use Rattle.vl_oracle.specs.LiveTickets.{LiveTickets}
 use Rattle.vl_seglog.specs.declared.active.ActiveLog.{ActiveLog}

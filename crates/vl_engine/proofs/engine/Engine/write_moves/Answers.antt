@@ -1,13 +1,13 @@
 use Rattle.std.proofs.Common.{◌≡◌, ◌+◌, ℕ, ap, arith, refl, subst, sym, ◌∙◌}
 use Rattle.std.specs.Option.{ForSome}
 use Rattle.std.specs.Prelude.{Option, List, true}
-use Rattle.vl_core.specs.Fit.{IsFitFor}
-use Rattle.vl_core.specs.Known.{are_known}
+use Rattle.vl_engine_laws.specs.Fit.{IsFitFor}
+use Rattle.vl_engine_laws.specs.Known.{are_known}
 use Rattle.vl_disk.specs.Disk.{Stands}
 use Rattle.vl_disk.specs.DiskState.{DiskState}
 use Rattle.vl_disk.specs.declared.name.Name.TheVariants as names
 use Rattle.vl_engine.proofs.Fitting.{fit_halted}
-use Rattle.vl_core.specs.Writing.{written}
+use Rattle.vl_engine_laws.specs.Writing.{written}
 use Rattle.vl_engine.proofs.Filing.{files_written}
 use Rattle.vl_engine.proofs.KeptBy.{same_after, same_by}
 use Rattle.vl_engine.proofs.Lending.{leaves_then, still_lent}

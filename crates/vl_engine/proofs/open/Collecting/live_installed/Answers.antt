@@ -3,7 +3,7 @@ use Rattle.std.proofs.lemmas.Result.{IfOk-weaker}
 use Rattle.std.specs.Borrow.{Bor}
 use Rattle.std.specs.List.{filter}
 use Rattle.std.specs.Prelude.{map}
-use Rattle.vl_block.specs.declared.footer.Footer.{Footer}
+use Rattle.vl_table.specs.declared.body.footer.Footer.{Footer}
 use Rattle.vl_compact.specs.declared.files.Synced.{Synced}
 use Rattle.vl_compact.specs.declared.inputs.Inputs.{Inputs}
 use Rattle.vl_engine.proofs.Collected.{leads_same}

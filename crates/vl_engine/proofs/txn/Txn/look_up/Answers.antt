@@ -5,7 +5,7 @@ use Rattle.vl_version.specs.Answers.{Gives, IsAstray}
 use Rattle.vl_version.specs.Over.{LooksOver}
 use Rattle.vl_version.specs.Sources.{stored_in}
 use Rattle.vl_engine.proofs.Seeing.{fault_handed, fault_near, fault_sound, on_error, sees_get, sees_still}
-use Rattle.vl_core.specs.laws.ReadLaws.{none_astray, value_led}
+use Rattle.vl_engine_laws.specs.laws.ReadLaws.{none_astray, value_led}
 use Rattle.vl_engine.proofs.txn.Txn.look_up.Goals as goal
 
 pub returns-clause-sees : goal.returns-clause-sees

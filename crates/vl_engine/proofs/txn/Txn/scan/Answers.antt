@@ -1,6 +1,6 @@
 use Rattle.std.proofs.Common.{refl, Global, Vec}
 use Rattle.vl_engine.proofs.Seeing.{fault_near, fault_sound, kept_beside, on_error, sees_scan, sees_still}
-use Rattle.vl_core.specs.laws.ReadLaws.{contents_stand, none_astray}
+use Rattle.vl_engine_laws.specs.laws.ReadLaws.{contents_stand, none_astray}
 use Rattle.vl_model.specs.Keys.{Row}
 use Rattle.vl_version.specs.Scans.{AreScanned, SomeAstray}
 use Rattle.vl_version.specs.declared.wanted.Wanted.{Wanted}

@@ -5,10 +5,10 @@ use Rattle.vl_version.specs.Answers.{Fills, IsAnswer, IsAstray, IsFound}
 use Rattle.vl_version.specs.Faults.{Failed}
 use Rattle.vl_version.specs.Over.{LooksOver}
 use Rattle.vl_version.specs.Sources.{stored_in}
-use Rattle.vl_version.specs.declared.fault.ReadFault.{ReadFault}
+use Rattle.vl_disk.specs.declared.read_fault.ReadFault.{ReadFault}
 use Rattle.vl_version.specs.declared.found.Found.{Found}
 use Rattle.vl_engine.proofs.Seeing.{fault_met, found_led, sees_alone_still, undamaged, unfailed}
-use Rattle.vl_core.specs.laws.ReadLaws.{none_astray}
+use Rattle.vl_engine_laws.specs.laws.ReadLaws.{none_astray}
 use Rattle.vl_engine.proofs.view.View.get_into.Goals as goal
 
 pub returns-in-Ok-clause-value : goal.returns-in-Ok-clause-value

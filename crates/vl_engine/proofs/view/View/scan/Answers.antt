@@ -1,7 +1,7 @@
 use Rattle.std.proofs.Common.{ap, ◌∙◌, refl, Global, Vec}
 use Rattle.vl_engine.specs.Reading.{rows_under}
 use Rattle.vl_engine.proofs.Seeing.{fault_near, fault_sound, kept_beside, sees_alone_still}
-use Rattle.vl_core.specs.laws.ReadLaws.{contents_stand, none_astray}
+use Rattle.vl_engine_laws.specs.laws.ReadLaws.{contents_stand, none_astray}
 use Rattle.vl_version.specs.Scans.{AreScanned, SomeAstray}
 use Rattle.vl_version.specs.declared.wanted.Wanted.{Wanted}
 use Rattle.vl_model.specs.History.{contents_at}

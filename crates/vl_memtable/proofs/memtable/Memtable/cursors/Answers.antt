@@ -1,6 +1,6 @@
 use Rattle.std.proofs.Common.{map, ap, sym, ◌∙◌}
 use Rattle.std.proofs.lemmas.Result.{IfOk-weaker}
-use Rattle.vl_run.specs.Order.{along}
+use Rattle.vl_model.specs.EntryOrder.{along}
 use Rattle.vl_memtable.proofs.FactLaws.{give_all}
 use Rattle.vl_memtable.proofs.memtable.Memtable.cursors.Goals as goal
 

@@ -1,7 +1,7 @@
 use Rattle.std.proofs.Common.{List, map, ap, sym, ◌∙◌}
 use Rattle.std.proofs.lemmas.Result.{IfOk-weaker}
 use Rattle.vl_model.specs.declared.entry.Entry.{Entry}
-use Rattle.vl_run.specs.Order.{along, within}
+use Rattle.vl_model.specs.EntryOrder.{along, within}
 use Rattle.vl_memtable.proofs.FactLaws.{give_within}
 use Rattle.vl_memtable.proofs.memtable.Memtable.cursors_within.Goals as goal
 

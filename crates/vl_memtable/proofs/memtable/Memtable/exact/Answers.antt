@@ -1,6 +1,6 @@
 use Rattle.std.proofs.Common.{sym, ap, ◌∙◌}
 use Rattle.vl_model.specs.Winners.{exact}
-use Rattle.vl_run.specs.laws.Exact.{exact-in_order}
+use Rattle.vl_model.specs.laws.Exact.{exact-in_order}
 use Rattle.vl_memtable.specs.Contents.{Contents, all_of}
 use Rattle.vl_memtable.proofs.memtable.Memtable.exact.Goals as goal
 

@@ -1,12 +1,12 @@
 use Rattle.std.proofs.Common.{◌≡◌, ap, sym, subst, ◌∙◌, refl, arith}
-use Rattle.vl_layout.specs.declared.layout.Layout.{Layout}
+use Rattle.vl_engine_model.specs.declared.layout.Layout.{Layout}
 use Rattle.vl_replay.proofs.Merges.Waiting.{none_merges}
-use Rattle.vl_core.specs.Found.{IsDurable}
+use Rattle.vl_engine_laws.specs.Found.{IsDurable}
 use Rattle.vl_recover.specs.laws.opening.OneFinding.{opened_not}
-use Rattle.vl_sequential.specs.Sequential.{history_of}
+use Rattle.vl_script_model.specs.Sequential.{history_of}
 use Rattle.vl_replay.proofs.Openings.Begun.{opened_holds, opened_passes, opened_stands}
-use Rattle.vl_sequential.specs.laws.Recovering.{refused_not}
-use Rattle.vl_sequential.specs.laws.Starting.{at_most}
+use Rattle.vl_script_model.specs.laws.Recovering.{refused_not}
+use Rattle.vl_script_model.specs.laws.Starting.{at_most}
 use Rattle.vl_engine.specs.Removing.{Removes}
 use Rattle.vl_replay.proofs.replayer.Replayer.new.Goals as goal
 

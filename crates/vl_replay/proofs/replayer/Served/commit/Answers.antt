@@ -1,17 +1,17 @@
 -- The commit is answered as the ruling on it has it, and carried out so.
 use Rattle.std.specs.Prelude.{Ok, Err, Option}
 use Rattle.std.proofs.Common.{◌≡◌, ap, refl, subst, sym, ◌∙◌}
-use Rattle.vl_core.specs.Represents as engine
-use Rattle.vl_layout.specs.Rulings.Commit as rulings
-use Rattle.vl_layout.specs.Rulings.Commit.{commit_lost, commit_ruling}
-use Rattle.vl_layout.specs.Store.Reading.{commit_by}
-use Rattle.vl_layout.specs.Store.Lines.{Unknown}
-use Rattle.vl_layout.specs.Store.Things.{Thing, only, thing_of}
+use Rattle.vl_engine_laws.specs.Represents as engine
+use Rattle.vl_engine_model.specs.Rulings.Commit as rulings
+use Rattle.vl_engine_model.specs.Rulings.Commit.{commit_lost, commit_ruling}
+use Rattle.vl_engine_model.specs.Store.Reading.{commit_by}
+use Rattle.vl_engine_model.specs.Store.Lines.{Unknown}
+use Rattle.vl_engine_model.specs.Store.Things.{Thing, only, thing_of}
 use Rattle.vl_model.specs.declared.counter.Counter.TheVariants as counters
-use Rattle.vl_sequential.specs.Sequential.{history_of}
+use Rattle.vl_script_model.specs.Sequential.{history_of}
 use Rattle.vl_replay.proofs.Names.CommitMaking.{conflict_makes, decided_so, exhausted_makes, full_makes, never_halted}
 use Rattle.vl_replay.proofs.Names.CommitMaking.{failed_so, handed_so, nothing_makes, number_makes, outcome_done, outcome_fail}
-use Rattle.vl_sequential.specs.declared.fails.Halt.TheVariants as halts
+use Rattle.vl_script_model.specs.declared.fails.Halt.TheVariants as halts
 use Rattle.vl_script.specs.declared.answer.Answer.TheVariants as answers
 use Rattle.vl_replay.proofs.Disk.Carried.{quiet_carries}
 use Rattle.vl_replay.proofs.Disk.Committed.{answered_carries, carries_short, exhausted_carries, failed_carries}

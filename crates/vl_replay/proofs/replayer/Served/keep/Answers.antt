@@ -2,19 +2,19 @@
 use Rattle.std.proofs.Common.{◌≡◌, ap, sym, ◌∙◌, subst}
 use Rattle.std.specs.Prelude.{OnOk, Result}
 use Rattle.vl_engine.specs.Keeping.{keep_outcome}
-use Rattle.vl_core.specs.laws.KeepLaws.{keep_made as keep_ruled, keep_other}
-use Rattle.vl_layout.specs.Ruling.{Ruling}
-use Rattle.vl_layout.specs.Rulings.Keep.{KeepAnswer, keep_ruling}
-use Rattle.vl_layout.specs.Store.Dispatch.{keep_by}
-use Rattle.vl_sequential.specs.Halts.{HaltsByRead}
+use Rattle.vl_engine_laws.specs.laws.KeepLaws.{keep_made as keep_ruled, keep_other}
+use Rattle.vl_engine_model.specs.Ruling.{Ruling}
+use Rattle.vl_engine_model.specs.Rulings.Keep.{KeepAnswer, keep_ruling}
+use Rattle.vl_engine_model.specs.Store.Dispatch.{keep_by}
+use Rattle.vl_script_model.specs.Halts.{HaltsByRead}
 use Rattle.vl_replay.specs.Replaying.{MakesStep}
-use Rattle.vl_sequential.specs.Sequential.{history_of}
-use Rattle.vl_sequential.specs.declared.fails.Halt.{Halt}
-use Rattle.vl_sequential.specs.laws.Laws.{state_after-sound}
+use Rattle.vl_script_model.specs.Sequential.{history_of}
+use Rattle.vl_script_model.specs.declared.fails.Halt.{Halt}
+use Rattle.vl_script_model.specs.laws.Laws.{state_after-sound}
 use Rattle.vl_script.specs.declared.answer.Answer.{Answer}
 use Rattle.vl_script.specs.declared.line.Line.TheVariants as lines
 use Rattle.vl_replay.proofs.Disk.KeptSteps.{keep_carries, keep_halted_at, keep_made, keep_named, unkept_at}
-use Rattle.vl_sequential.specs.laws.Torn.{keep_torn}
+use Rattle.vl_script_model.specs.laws.Torn.{keep_torn}
 use Rattle.vl_replay.proofs.Names.KeepMaking.{keep_cause, keep_keeps, keep_leaves, keep_makes, keep_sound}
 use Rattle.vl_replay.proofs.Names.Serving.{decides_all, represents}
 use Rattle.vl_engine.specs.Removing.{Removes}

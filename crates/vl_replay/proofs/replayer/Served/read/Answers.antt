@@ -1,8 +1,8 @@
 -- The name's thing is read in its place.
 use Rattle.std.proofs.Common.{◌∙◌, ℕ, List, refl, ap, sym, arith}
-use Rattle.vl_layout.specs.Store.Reading.{get_by}
-use Rattle.vl_layout.specs.Store.Things.{thing_of}
-use Rattle.vl_sequential.specs.Sequential.{history_of}
+use Rattle.vl_engine_model.specs.Store.Reading.{get_by}
+use Rattle.vl_engine_model.specs.Store.Things.{thing_of}
+use Rattle.vl_script_model.specs.Sequential.{history_of}
 use Rattle.vl_replay.specs.Standing.{tell_of, told_value}
 use Rattle.vl_replay.specs.declared.replayer.open.Thing.TheVariants.{Transaction, View}
 use Rattle.vl_replay.proofs.Names.Lookups.{place_there, without_open}

@@ -4,21 +4,21 @@ use Rattle.std.specs.Prelude.{ℕ, Result, OnOk}
 use Rattle.vl_disk.specs.declared.name.Name.TheVariants as names
 use Rattle.vl_engine.specs.Collecting.{Collects}
 use Rattle.vl_engine.specs.Stepping.{step_outcome}
-use Rattle.vl_layout.specs.Ruling.{Ruling, StepAnswer}
-use Rattle.vl_layout.specs.Rulings.Rotate.{rotate_ruling}
-use Rattle.vl_layout.specs.Store.Dispatch.{step_by, step_told}
-use Rattle.vl_sequential.specs.Halts.{HaltsByRead}
+use Rattle.vl_engine_model.specs.Ruling.{Ruling, StepAnswer}
+use Rattle.vl_engine_model.specs.Rulings.Rotate.{rotate_ruling}
+use Rattle.vl_engine_model.specs.Store.Dispatch.{step_by, step_told}
+use Rattle.vl_script_model.specs.Halts.{HaltsByRead}
 use Rattle.vl_replay.specs.Replaying.{MakesStep}
-use Rattle.vl_sequential.specs.Sequential.{files_behind, history_of}
-use Rattle.vl_sequential.specs.declared.fails.Halt.{Halt}
-use Rattle.vl_sequential.specs.laws.Laws.{state_after-sound}
+use Rattle.vl_script_model.specs.Sequential.{files_behind, history_of}
+use Rattle.vl_script_model.specs.declared.fails.Halt.{Halt}
+use Rattle.vl_script_model.specs.laws.Laws.{state_after-sound}
 use Rattle.vl_script.specs.declared.answer.Answer.{Answer}
 use Rattle.vl_script.specs.declared.line.Line.TheVariants as lines
 use Rattle.vl_replay.proofs.Disk.Stepped.{failed_at, halted_at, rotate_made, rotate_named, step_carries}
 use Rattle.vl_replay.proofs.Names.Serving.{decides_all, represents}
 use Rattle.vl_replay.proofs.Names.StepMaking.{rotate_leaves, step_cause, step_makes, step_sound}
-use Rattle.vl_core.specs.laws.RotateRulings.{made_ruled, rotate_made as rotate_ruled}
-use Rattle.vl_sequential.specs.laws.Torn.{rotate_torn}
+use Rattle.vl_engine_laws.specs.laws.RotateRulings.{made_ruled, rotate_made as rotate_ruled}
+use Rattle.vl_script_model.specs.laws.Torn.{rotate_torn}
 use Rattle.vl_replay.proofs.Passes.Stepping.{step_leaves}
 use Rattle.vl_engine.specs.Removing.{Removes}
 use Rattle.vl_replay.proofs.replayer.Served.rotate.Goals as goal

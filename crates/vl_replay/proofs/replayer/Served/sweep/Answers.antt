@@ -1,17 +1,17 @@
 -- A sweep is answered as its ruling has it, and carried out so.
 use Rattle.std.proofs.Common.{sym, ◌∙◌, subst}
 use Rattle.std.specs.Prelude.{OnOk, Result}
-use Rattle.vl_core.specs.Represents as engine
+use Rattle.vl_engine_laws.specs.Represents as engine
 use Rattle.vl_engine.specs.Collecting.{Collects}
 use Rattle.vl_engine.specs.Merging.{StandsOpen}
 use Rattle.vl_engine.specs.Sweeping.{sweep_outcome}
-use Rattle.vl_layout.specs.Rulings.Sweep.{sweep_ruling}
-use Rattle.vl_layout.specs.Store.Dispatch.{sweep_by}
-use Rattle.vl_sequential.specs.Halts.{HaltsByRead}
+use Rattle.vl_engine_model.specs.Rulings.Sweep.{sweep_ruling}
+use Rattle.vl_engine_model.specs.Store.Dispatch.{sweep_by}
+use Rattle.vl_script_model.specs.Halts.{HaltsByRead}
 use Rattle.vl_replay.specs.Replaying.{MakesStep}
-use Rattle.vl_sequential.specs.Sequential.{history_of}
-use Rattle.vl_sequential.specs.declared.fails.Halt.{Halt}
-use Rattle.vl_sequential.specs.laws.Laws.{state_after-sound}
+use Rattle.vl_script_model.specs.Sequential.{history_of}
+use Rattle.vl_script_model.specs.declared.fails.Halt.{Halt}
+use Rattle.vl_script_model.specs.laws.Laws.{state_after-sound}
 use Rattle.vl_script.specs.declared.answer.Answer.{Answer}
 use Rattle.vl_script.specs.declared.line.Line.TheVariants as lines
 use Rattle.vl_engine.specs.Removing.{Removes}

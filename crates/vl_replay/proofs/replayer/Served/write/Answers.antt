@@ -1,8 +1,8 @@
 -- The name's transaction is written in its place.
 use Rattle.std.proofs.Common.{◌∙◌, refl, sym, arith}
 use Rattle.std.specs.Prelude.{Ok}
-use Rattle.vl_layout.specs.Store.Reading.{write_by}
-use Rattle.vl_layout.specs.Store.Things.{thing_of}
+use Rattle.vl_engine_model.specs.Store.Reading.{write_by}
+use Rattle.vl_engine_model.specs.Store.Things.{thing_of}
 use Rattle.vl_replay.specs.Standing.{change_of}
 use Rattle.vl_replay.specs.declared.replayer.open.Thing.TheVariants.{Transaction}
 use Rattle.vl_replay.proofs.Names.Lookups.{place_there, without_open}

@@ -1,12 +1,12 @@
 -- A batch is answered as the pass gives it, and waits then.
 use Rattle.std.proofs.Common.{◌∙◌, refl, ap, sym, subst}
 use Rattle.std.specs.Prelude.{Option, None, Some, Err}
-use Rattle.vl_layout.specs.Store.Dispatch.{batch_by}
-use Rattle.vl_layout.specs.Store.Lines as store_lines
-use Rattle.vl_layout.specs.Store.Things.{thing_of}
-use Rattle.vl_sequential.specs.Halts.{HaltsByDamage}
+use Rattle.vl_engine_model.specs.Store.Dispatch.{batch_by}
+use Rattle.vl_engine_model.specs.Store.Lines as store_lines
+use Rattle.vl_engine_model.specs.Store.Things.{thing_of}
+use Rattle.vl_script_model.specs.Halts.{HaltsByDamage}
 use Rattle.vl_replay.specs.Passing.{Passes}
-use Rattle.vl_sequential.specs.declared.fails.Halt.{Halt}
+use Rattle.vl_script_model.specs.declared.fails.Halt.{Halt}
 use Rattle.vl_script.specs.declared.answer.Answer.{Answer}
 use Rattle.vl_script.specs.declared.answer.Answer.TheVariants as answers
 use Rattle.vl_replay.proofs.Names.BeginMaking.{none_or_some}

@@ -1,17 +1,17 @@
 -- The pass that is open is ended where it has the name; else what waits or reads is.
 use Rattle.std.proofs.Common.{◌≡◌, ◌∙◌, ap, sym, subst}
 use Rattle.std.specs.Prelude.{Ok, Option, Some}
-use Rattle.vl_core.specs.MayStep.{Fits}
-use Rattle.vl_core.specs.Represents as engine
-use Rattle.vl_core.specs.Shown.{Shown}
-use Rattle.vl_layout.specs.Rulings.EndPass.{without_pass}
-use Rattle.vl_layout.specs.Store.Dispatch.{drop_by}
-use Rattle.vl_layout.specs.Store.Things.{APass, Thing, thing_of}
-use Rattle.vl_sequential.specs.Durable.{CarriesOut}
+use Rattle.vl_engine_laws.specs.MayStep.{Fits}
+use Rattle.vl_engine_laws.specs.Represents as engine
+use Rattle.vl_engine_laws.specs.Shown.{Shown}
+use Rattle.vl_engine_model.specs.Rulings.EndPass.{without_pass}
+use Rattle.vl_engine_model.specs.Store.Dispatch.{drop_by}
+use Rattle.vl_engine_model.specs.Store.Things.{APass, Thing, thing_of}
+use Rattle.vl_script_model.specs.Durable.{CarriesOut}
 use Rattle.vl_replay.specs.Passing.{PassesIn}
 use Rattle.vl_replay.specs.Replaying.{MakesStep, state_by}
-use Rattle.vl_sequential.specs.Sequential.{history_of}
-use Rattle.vl_sequential.specs.Stored.{IsStopped, IsStored}
+use Rattle.vl_script_model.specs.Sequential.{history_of}
+use Rattle.vl_script_model.specs.Stored.{IsStopped, IsStored}
 use Rattle.vl_script.specs.declared.answer.Answer.TheVariants as answers
 use Rattle.vl_replay.proofs.Merges.Handing.{can_still}
 use Rattle.vl_replay.proofs.Names.Serving.{represents}

@@ -3,20 +3,20 @@ use Rattle.std.proofs.Common.{◌≤◌, ℕ, refl, ap, sym, ◌∙◌, subst}
 use Rattle.std.specs.Prelude.{Option, Some, Ok, Err}
 use Rattle.std.specs.List.{AllByRecursion}
 use Rattle.vl_back.specs.declared.back.Back.{Back}
-use Rattle.vl_core.specs.Pointed.{layout_logs}
-use Rattle.vl_core.specs.Represents as engine
-use Rattle.vl_core.specs.laws.StillLaws.{there_now}
+use Rattle.vl_engine_laws.specs.Pointed.{layout_logs}
+use Rattle.vl_engine_laws.specs.Represents as engine
+use Rattle.vl_engine_laws.specs.laws.StillLaws.{there_now}
 use Rattle.vl_engine.specs.Merging.{StandsOpen}
 use Rattle.vl_engine.specs.Relocating.{IsDamaged, IsOfPass, MoveLeavesDisk, batch_back, move_outcome}
 use Rattle.vl_engine.specs.declared.fails.MoveFail.{MoveFail}
-use Rattle.vl_layout.specs.Rulings.Relocate as move
-use Rattle.vl_layout.specs.Store.Dispatch.{move_by}
-use Rattle.vl_layout.specs.Store.Lines as store_lines
-use Rattle.vl_layout.specs.Shown.{IsThere}
-use Rattle.vl_layout.specs.Store.Things.{APass, Step, thing_in, thing_of}
+use Rattle.vl_engine_model.specs.Rulings.Relocate as move
+use Rattle.vl_engine_model.specs.Store.Dispatch.{move_by}
+use Rattle.vl_engine_model.specs.Store.Lines as store_lines
+use Rattle.vl_engine_model.specs.Shown.{IsThere}
+use Rattle.vl_engine_model.specs.Store.Things.{APass, Step, thing_in, thing_of}
 use Rattle.vl_replay.specs.Passing.{Passes}
 use Rattle.vl_replay.specs.Replaying.{MakesStep}
-use Rattle.vl_sequential.specs.Sequential.{history_of}
+use Rattle.vl_script_model.specs.Sequential.{history_of}
 use Rattle.vl_script.specs.declared.answer.Answer.TheVariants as answers
 use Rattle.vl_replay.proofs.Disk.Carried.{quiet_carries}
 use Rattle.vl_replay.proofs.Disk.Committed.{carries_short, only_keeps}
@@ -28,7 +28,7 @@ use Rattle.vl_replay.proofs.Passes.Moving.{decides_weaker, moved_makes, moved_op
 use Rattle.vl_replay.proofs.Passes.Moving.{refused_passes, waits_there}
 use Rattle.vl_replay.proofs.Passes.Standing.{out_carries}
 use Rattle.vl_engine.specs.Removing.{Removes}
-use Rattle.vl_layout.specs.declared.layout.Layout.{Layout}
+use Rattle.vl_engine_model.specs.declared.layout.Layout.{Layout}
 use Rattle.vl_replay.proofs.replayer.collecting.move_batch.Goals as goal
 
 pub returns-in_default-clause-makes : goal.returns-in_default-clause-makes

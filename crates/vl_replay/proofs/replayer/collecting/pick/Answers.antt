@@ -1,33 +1,33 @@
 -- A pick is answered as the ruling on it has it, and the pass is the open one then.
 use Rattle.std.proofs.Common.{◌≡◌, ◌∙◌, ℕ, ap, refl, sym, subst}
 use Rattle.std.specs.Prelude.{Ok, Err}
-use Rattle.vl_core.specs.Shown.{Shown}
-use Rattle.vl_core.specs.declared.kept.Core.{Core}
+use Rattle.vl_engine_laws.specs.Shown.{Shown}
+use Rattle.vl_engine_laws.specs.declared.kept.Core.{Core}
 use Rattle.vl_engine.specs.Collecting.{Collects, pick_outcome}
 use Rattle.vl_engine.specs.Merging.{StandsOpen}
-use Rattle.vl_layout.specs.Decides.{Answered}
-use Rattle.vl_layout.specs.Rulings.Pick as rulings
-use Rattle.vl_layout.specs.Rulings.Pick.{PickAnswer, pick_ruling}
-use Rattle.vl_layout.specs.Store.Dispatch.{pick_as}
-use Rattle.vl_layout.specs.Store.Lines as store_lines
-use Rattle.vl_layout.specs.Store.Things.{thing_of}
-use Rattle.vl_sequential.specs.Durable.{CarriesOut}
+use Rattle.vl_engine_model.specs.Decides.{Answered}
+use Rattle.vl_engine_model.specs.Rulings.Pick as rulings
+use Rattle.vl_engine_model.specs.Rulings.Pick.{PickAnswer, pick_ruling}
+use Rattle.vl_engine_model.specs.Store.Dispatch.{pick_as}
+use Rattle.vl_engine_model.specs.Store.Lines as store_lines
+use Rattle.vl_engine_model.specs.Store.Things.{thing_of}
+use Rattle.vl_script_model.specs.Durable.{CarriesOut}
 use Rattle.vl_replay.specs.Replaying.{MakesStep, StandsIn, state_by}
-use Rattle.vl_sequential.specs.Sequential.{history_of}
-use Rattle.vl_sequential.specs.Stored.{IsStopped, IsStored}
-use Rattle.vl_sequential.specs.laws.Growing.{pick_commits}
+use Rattle.vl_script_model.specs.Sequential.{history_of}
+use Rattle.vl_script_model.specs.Stored.{IsStopped, IsStored}
+use Rattle.vl_script_model.specs.laws.Growing.{pick_commits}
 use Rattle.vl_script.specs.declared.answer.Answer.{Answer}
 use Rattle.vl_script.specs.declared.answer.Answer.TheVariants as answers
 use Rattle.vl_replay.proofs.Disk.Carried.{quiet_carries}
 use Rattle.vl_replay.proofs.Names.Serving.{Serves, represents}
-use Rattle.vl_core.specs.MayStep.{Fits}
-use Rattle.vl_core.specs.Represents.{IsHeld, StandsFor}
-use Rattle.vl_sequential.specs.declared.fails.Halt.TheVariants as why
+use Rattle.vl_engine_laws.specs.MayStep.{Fits}
+use Rattle.vl_engine_laws.specs.Represents.{IsHeld, StandsFor}
+use Rattle.vl_script_model.specs.declared.fails.Halt.TheVariants as why
 use Rattle.vl_replay.proofs.Passes.Picking.{answers_ruling, picked_calls, picked_makes, picked_next_log, picked_next_table, picked_passes}
 use Rattle.vl_replay.proofs.Passes.Picking.{picked_represents, picked_running, refused_keeps, refused_makes, refused_passes}
 use Rattle.vl_replay.proofs.Passes.Standing.{out_carries, still_carries}
 use Rattle.vl_engine.specs.Removing.{Removes}
-use Rattle.vl_layout.specs.declared.layout.Layout.{Layout}
+use Rattle.vl_engine_model.specs.declared.layout.Layout.{Layout}
 use Rattle.vl_replay.proofs.Passes.Picking.{picked_layout}
 use Rattle.vl_replay.proofs.replayer.collecting.pick.Goals as goal
 

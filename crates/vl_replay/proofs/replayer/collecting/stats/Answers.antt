@@ -1,10 +1,10 @@
 -- Statistics are told as the engine has them.
 use Rattle.std.proofs.Common.{◌∙◌, List, ap, refl}
 use Rattle.std.specs.Prelude.{map}
-use Rattle.vl_layout.specs.Rulings.Stats.{stats_ruling}
-use Rattle.vl_layout.specs.Store.Dispatch.{step_of}
-use Rattle.vl_layout.specs.Store.Lines as store_lines
-use Rattle.vl_sequential.specs.Sequential.{history_of, stat_told}
+use Rattle.vl_engine_model.specs.Rulings.Stats.{stats_ruling}
+use Rattle.vl_engine_model.specs.Store.Dispatch.{step_of}
+use Rattle.vl_engine_model.specs.Store.Lines as store_lines
+use Rattle.vl_script_model.specs.Sequential.{history_of, stat_told}
 use Rattle.vl_script.specs.declared.answer.Answer.TheVariants as answers
 use Rattle.vl_script.specs.declared.answer.SegmentLine.{SegmentLine}
 use Rattle.vl_replay.proofs.Names.Making.{only_makes}

@@ -1,17 +1,17 @@
 -- Each line's call makes the line's step.
 use Rattle.std.proofs.Common.{ap, refl, sym, subst}
 use Rattle.std.specs.Prelude.{Ok, OnOk}
-use Rattle.vl_core.specs.Shown.{Shown}
-use Rattle.vl_layout.specs.Store.Reading.{a_transaction, a_view, answer_of, answer_with_tag}
-use Rattle.vl_layout.specs.Store.Things.{Step, thing_of}
+use Rattle.vl_engine_laws.specs.Shown.{Shown}
+use Rattle.vl_engine_model.specs.Store.Reading.{a_transaction, a_view, answer_of, answer_with_tag}
+use Rattle.vl_engine_model.specs.Store.Things.{Step, thing_of}
 use Rattle.vl_model.specs.Keys.{tagged, untagged}
 use Rattle.vl_model.specs.declared.change.Change.TheVariants as changes
-use Rattle.vl_sequential.specs.Durable.{CarriesOut}
-use Rattle.vl_sequential.specs.Failing.{FailsAt, ReadsTables}
+use Rattle.vl_script_model.specs.Durable.{CarriesOut}
+use Rattle.vl_script_model.specs.Failing.{FailsAt, ReadsTables}
 use Rattle.vl_replay.specs.Replaying.{MakesStep, MergesIn, RemovesIn}
-use Rattle.vl_sequential.specs.Sequential.{answer_to, history_of, state_after, step_to}
-use Rattle.vl_sequential.specs.Stored.{IsStopped, IsStored}
-use Rattle.vl_sequential.specs.laws.Growing.{batch_keeps, begin_keeps, get_at_keeps, get_keeps, scan_keeps, stats_keeps, write_keeps}
+use Rattle.vl_script_model.specs.Sequential.{answer_to, history_of, state_after, step_to}
+use Rattle.vl_script_model.specs.Stored.{IsStopped, IsStored}
+use Rattle.vl_script_model.specs.laws.Growing.{batch_keeps, begin_keeps, get_at_keeps, get_keeps, scan_keeps, stats_keeps, write_keeps}
 use Rattle.vl_script.specs.declared.line.Line.{Line}
 use Rattle.vl_script.specs.declared.line.Line.TheVariants as lines
 use Rattle.vl_replay.proofs.Disk.Carried.{quiet_carries}
@@ -25,13 +25,13 @@ use Rattle.vl_replay.proofs.Lines.Unmoved.{free_name, leaves_carries, taken_leav
 use Rattle.vl_replay.proofs.Lines.Unmoved.{unanswered_carries, used_line}
 use Rattle.vl_replay.proofs.Merges.Handing.{can_answered, can_same}
 use Rattle.vl_replay.proofs.Merges.Waiting.{merges_behind, on_ok_of}
-use Rattle.vl_sequential.specs.laws.Halting.{not_by_disk, out_not_by_disk}
+use Rattle.vl_script_model.specs.laws.Halting.{not_by_disk, out_not_by_disk}
 use Rattle.vl_replay.proofs.Names.Halts.{by_the_reader, damage_is_read, no_cause, not_at, not_by_damage, not_by_read}
 use Rattle.vl_replay.proofs.Names.Halts.{not_by_reader, reader_is_read}
 use Rattle.vl_replay.proofs.Passes.Picking.{pick_keeps_merges}
 use Rattle.vl_replay.proofs.Passes.Standing.{passes_behind}
 use Rattle.vl_replay.proofs.Passes.Stepping.{passes_stepped}
-use Rattle.vl_core.specs.laws.Lasting.{flush_lasts, rotate_lasts}
+use Rattle.vl_engine_laws.specs.laws.Lasting.{flush_lasts, rotate_lasts}
 use Rattle.vl_replay.specs.declared.replayer.choice.Choice.TheVariants.{Due, LeadsInto}
 use Rattle.vl_replay.specs.Passing.{PassesIn, name_made}
 use Rattle.vl_engine.specs.Removing.{Removes}

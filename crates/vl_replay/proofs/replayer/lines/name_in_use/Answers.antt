@@ -1,9 +1,9 @@
 -- The name is in use exactly where it stands for something.
 use Rattle.std.proofs.Common.{◌≡◌, ◌∙◌, ap, sym}
 use Rattle.std.specs.Prelude.{Some}
-use Rattle.vl_layout.specs.Store.Lines.{Name}
-use Rattle.vl_layout.specs.Store.Things.{thing_of}
-use Rattle.vl_sequential.specs.Sequential.{history_of}
+use Rattle.vl_engine_model.specs.Store.Lines.{Name}
+use Rattle.vl_engine_model.specs.Store.Things.{thing_of}
+use Rattle.vl_script_model.specs.Sequential.{history_of}
 use Rattle.vl_replay.proofs.Names.BeginMaking.{none_or_some}
 use Rattle.vl_replay.proofs.Passes.Used.{tested}
 use Rattle.vl_replay.proofs.replayer.lines.name_in_use.Goals as goal

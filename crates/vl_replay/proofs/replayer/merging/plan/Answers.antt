@@ -1,26 +1,26 @@
 -- A merge is planned as the store has it, and carried out so.
 use Rattle.std.proofs.Common.{◌∙◌, ◌≡◌, ap, refl, subst, sym}
 use Rattle.std.specs.Prelude.{Err, None, Ok, OnOk, Option, Result}
-use Rattle.vl_core.specs.Shown.{Shown}
-use Rattle.vl_core.specs.declared.kept.Core.{Core}
-use Rattle.vl_layout.specs.Store.Lines as store_lines
+use Rattle.vl_engine_laws.specs.Shown.{Shown}
+use Rattle.vl_engine_laws.specs.declared.kept.Core.{Core}
+use Rattle.vl_engine_model.specs.Store.Lines as store_lines
 use Rattle.vl_engine.specs.Merging.{StandsOpen, plan_outcome}
-use Rattle.vl_layout.specs.Ruling.{Ruling}
-use Rattle.vl_layout.specs.Rulings.Plan.{with_job}
-use Rattle.vl_layout.specs.Store.Things.{Step, only, thing_of}
-use Rattle.vl_layout.specs.declared.job.Job.{Job}
+use Rattle.vl_engine_model.specs.Ruling.{Ruling}
+use Rattle.vl_engine_model.specs.Rulings.Plan.{with_job}
+use Rattle.vl_engine_model.specs.Store.Things.{Step, only, thing_of}
+use Rattle.vl_engine_model.specs.declared.job.Job.{Job}
 use Rattle.vl_model.specs.declared.counter.Counter.{Counter}
 use Rattle.vl_replay.specs.Drawn.{drawn_all}
-use Rattle.vl_sequential.specs.Durable.{CarriesOut, LeadsTo}
+use Rattle.vl_script_model.specs.Durable.{CarriesOut, LeadsTo}
 use Rattle.vl_replay.specs.Choosing.{chosen, line_for}
 use Rattle.vl_replay.specs.Replaying.{Merges, StandsMerging}
-use Rattle.vl_sequential.specs.Sequential.{State, history_of, state_after, step_to}
-use Rattle.vl_sequential.specs.Stored.{IsStopped, IsStored}
-use Rattle.vl_sequential.specs.declared.fails.Halt.{Halt}
+use Rattle.vl_script_model.specs.Sequential.{State, history_of, state_after, step_to}
+use Rattle.vl_script_model.specs.Stored.{IsStopped, IsStored}
+use Rattle.vl_script_model.specs.declared.fails.Halt.{Halt}
 use Rattle.vl_script.specs.declared.answer.Answer.{Answer}
 use Rattle.vl_script.specs.declared.answer.Answer.TheVariants as answers
 use Rattle.vl_replay.proofs.CarryingTables.{out_is}
-use Rattle.vl_sequential.specs.laws.DiskSteps.{IsWatched}
+use Rattle.vl_script_model.specs.laws.DiskSteps.{IsWatched}
 use Rattle.vl_replay.proofs.CarryingRemoved.{LeavesDrawn}
 use Rattle.vl_replay.proofs.Merges.Planning.{planned_state}
 use Rattle.vl_replay.proofs.Merges.GivenUp.{Abandons, exhausted_leads, exhausted_leaves, exhausted_makes, exhausted_merges, none_of}

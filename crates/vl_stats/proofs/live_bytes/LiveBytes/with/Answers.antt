@@ -3,7 +3,7 @@ use Rattle.std.specs.List.{sum_by}
 use Rattle.std.specs.Ordering.{nat_cmp}
 use Rattle.std.specs.BTreeMap.{get}
 use Rattle.std.proofs.lemmas.Map.Entries.{entries_from_clone}
-use Rattle.vl_layout.specs.Garbage.{pointed_bytes}
+use Rattle.vl_engine_model.specs.Garbage.{pointed_bytes}
 use Rattle.vl_stats.specs.Live.{bytes_of}
 use Rattle.vl_stats.proofs.Steps.{footers_are, switched}
 use Rattle.vl_stats.proofs.live_bytes.LiveBytes.with.Goals as goal

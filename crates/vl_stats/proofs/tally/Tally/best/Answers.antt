@@ -1,8 +1,8 @@
 use Rattle.std.proofs.Common.{ℕ, List, map, nat_lt, subst, sym, ap, ◌∙◌}
 use Rattle.std.specs.List.{filter}
-use Rattle.vl_layout.specs.Garbage.{best_of, is_worth}
-use Rattle.vl_layout.specs.Sources.{rising}
-use Rattle.vl_layout.specs.Tidy.{sealed}
+use Rattle.vl_engine_model.specs.Garbage.{best_of, is_worth}
+use Rattle.vl_engine_model.specs.Sources.{rising}
+use Rattle.vl_engine_model.specs.Tidy.{sealed}
 use Rattle.vl_stats.specs.Tallies.{IsTally, Tallied, lengths_of, share_by}
 use Rattle.vl_stats.specs.laws.BestLaws.{best_of_tally, number_of}
 use Rattle.vl_stats.proofs.tally.Tally.best.Goals as goal

@@ -1,5 +1,5 @@
 use Rattle.std.proofs.Common.{[], refl}
-use Rattle.vl_layout.specs.Sources.{tables}
+use Rattle.vl_engine_model.specs.Sources.{tables}
 use Rattle.vl_stats.proofs.tally.Tally.new.Goals as goal
 
 pub returns : goal.returns

@@ -1,7 +1,7 @@
 use Rattle.std.proofs.Common.{◌≡◌, ℕ, Result, Ok, Err, IfOk, map, ap, ◌∙◌}
 use Rattle.std.specs.FinMap.{put}
 use Rattle.std.specs.Ordering.{nat_cmp}
-use Rattle.vl_layout.specs.Rulings.Stats.{told}
+use Rattle.vl_engine_model.specs.Rulings.Stats.{told}
 use Rattle.vl_stats.specs.Tallies.{Tallied, stat_by}
 use Rattle.vl_stats.specs.laws.RulingLaws.{stats_of_tally}
 use Rattle.vl_stats.proofs.tally.Tally.stats.Goals as goal

@@ -1,6 +1,6 @@
 use Rattle.std.proofs.Common.{◌-◌, vec_len, vec_capacity, refl, ap, ◌∙◌}
 use Rattle.std.specs.List.{filter}
-use Rattle.vl_layout.specs.declared.layout.Layout.{Layout}
+use Rattle.vl_engine_model.specs.declared.layout.Layout.{Layout}
 use Rattle.vl_stats.specs.Tallies.{IsOfLayout, IsTally, Tallied, stays}
 use Rattle.vl_stats.specs.laws.RulingLaws.{flush_leaves, install_leaves, tally_flushed, tally_installed}
 use Rattle.vl_stats.proofs.tally.Tally.switch.Goals as goal

@@ -1,5 +1,5 @@
 use Rattle.std.proofs.Common.{◌∙◌, ap, arith, length}
-use Rattle.vl_block.specs.declared.shape.TableShape.{TableShape}
+use Rattle.vl_table.specs.declared.body.shape.TableShape.{TableShape}
 use Rattle.vl_table.specs.SpanBlocks.{blocks_in, rises_over}
 use Rattle.vl_table.proofs.CursorSteps.{begun, begun_fewer, named_at, none_left}
 use Rattle.vl_table.proofs.StretchSteps.{less_on}

@@ -1,7 +1,7 @@
 use Rattle.std.proofs.Common.{◌∷◌, ◌∙◌, ap, arith, sym}
 use Rattle.vl_model.specs.declared.entry.Entry.{Entry}
-use Rattle.vl_run.specs.Order.{within}
-use Rattle.vl_block.specs.Entries.{entry_of}
+use Rattle.vl_model.specs.EntryOrder.{within}
+use Rattle.vl_table.specs.body.Entries.{entry_of}
 use Rattle.vl_table.specs.Stretches.{on_way, stretch_of}
 use Rattle.vl_table.proofs.CursorSteps.{gives_next, skips_next}
 use Rattle.vl_table.proofs.StretchSteps.{less_on}

@@ -4,13 +4,13 @@ use Rattle.std.specs.List.{slice_get}
 use Rattle.std.specs.Result.{IfErr}
 use Rattle.std.proofs.lemmas.Result.{err_from_is_err_and}
 use Rattle.vl_model.specs.declared.entry.Entry.{Entry}
-use Rattle.vl_run.specs.Order.{within}
-use Rattle.vl_run.specs.laws.Places.{slice_get-lent}
-use Rattle.vl_block.specs.declared.shape.TableShape.{TableShape}
+use Rattle.vl_model.specs.EntryOrder.{within}
+use Rattle.vl_model.specs.laws.Places.{slice_get-lent}
+use Rattle.vl_table.specs.declared.body.shape.TableShape.{TableShape}
 use Rattle.vl_table.specs.CursorLeft.{unread}
 use Rattle.vl_table.specs.CursorParts.{MayFailOn, StopsBefore, blocks_over, index_in}
 use Rattle.vl_table.specs.Stretches.{on_way, stretch_of}
-use Rattle.vl_table.specs.declared.fault.TableFault.{TableFault}
+use Rattle.vl_disk.specs.declared.read_fault.ReadFault.{ReadFault}
 use Rattle.vl_table.specs.declared.table.Table.{Table}
 use Rattle.vl_table.proofs.CursorSteps.{block_taken, fails_at, stands_at, stops_before, whole_block}
 use Rattle.vl_table.proofs.StretchSteps.{less_on}
@@ -30,7 +30,7 @@ returns-in_err-load-clause-may_fail g c =
     (λ (o : Option (Table g.row.H.Denot)). s.blocks.end ≤ length (index_in o)) here s.named in
     let inside : c.args.at < length shape.blocks.items = omega
     (arith, known, less.1, ap (λ (h : TableShape). length h.blocks.items) c.shape-shape.ensures) in
-    subst (λ (r : Result (Unit {0}) TableFault). IfErr r (λ fault. MayFailOn g.H.HeldFile.bytes s.tables.items fault))
+    subst (λ (r : Result (Unit {0}) ReadFault). IfErr r (λ fault. MayFailOn g.H.HeldFile.bytes s.tables.items fault))
     (sym (p.1 ∙ ap Err p.2))
     (fails_at g.H.HeldFile.bytes s.tables.items s.table t shape c.held.result.now c.of-id.result c.index.result.now
     c.args.at _ _ _ c.in_err-load.field-0.0
@@ -71,7 +71,7 @@ returns-in_err-load-clause-stopped g c =
     let first = block_taken s.way s.tables.items s.table t s.blocks c.args.rest c.args.at block others here s.named c.requires.next
     (c.index.ensures ∙ ap (λ (h : TableShape). get_or h.blocks.items c.args.at block) c.shape-shape.ensures) in
     let p = err_from_is_err_and c.from_residual.result c.from_residual.ensures.1 in
-    subst (λ (r : Result (Unit {0}) TableFault). IfErr r (λ fault. StopsBefore g.H.HeldFile.bytes (unread s) fault))
+    subst (λ (r : Result (Unit {0}) ReadFault). IfErr r (λ fault. StopsBefore g.H.HeldFile.bytes (unread s) fault))
     (sym (p.1 ∙ ap Err p.2))
     (stops_before g.H.HeldFile.bytes (unread s) _ t shape c.held.result.now c.of-id.result block _ _ _
     c.in_err-load.field-0.0 first c.shape-shape.ensures

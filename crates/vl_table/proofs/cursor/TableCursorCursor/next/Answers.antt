@@ -1,5 +1,5 @@
 use Rattle.std.proofs.Common.{◌≡◌, ◌∙◌, [], ap, arith, sym}
-use Rattle.vl_run.specs.Order.{within}
+use Rattle.vl_model.specs.EntryOrder.{within}
 use Rattle.vl_table.specs.CursorLeft.{in_block}
 use Rattle.vl_table.proofs.CursorLaws.{blocks_stay, goes_on, keeps_read, keeps_step, on_err_any, reads_on, reads_one, unread_stays}
 use Rattle.vl_table.proofs.CursorSteps.{keeps_on}

@@ -1,5 +1,5 @@
 use Rattle.std.proofs.Common.{arith}
-use Rattle.vl_block.specs.Entries.{IsEntry}
+use Rattle.vl_table.specs.body.Entries.{IsEntry}
 use Rattle.vl_table.proofs.EntrySteps.{all-at, at-within, starts-at, starts-counted}
 use Rattle.vl_table.proofs.entries.Entries.get.Goals as goal
 

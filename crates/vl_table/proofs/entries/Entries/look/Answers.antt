@@ -1,9 +1,9 @@
 use Rattle.std.proofs.Common.{◌≡◌, sym, ap, subst, ◌∙◌, Option, Some}
 use Rattle.std.specs.Prelude.{slice_get}
 use Rattle.vl_model.specs.declared.entry.Entry.{Entry}
-use Rattle.vl_run.specs.Lookups.{first_failing, is_ahead}
-use Rattle.vl_run.specs.laws.Places.{slice_get-prefix}
-use Rattle.vl_block.specs.Entries.{entry_of}
+use Rattle.vl_model.specs.Lookups.{first_failing, is_ahead}
+use Rattle.vl_model.specs.laws.Places.{slice_get-prefix}
+use Rattle.vl_table.specs.body.Entries.{entry_of}
 use Rattle.vl_table.specs.Scans.{IsScan}
 use Rattle.vl_table.proofs.EntrySteps.{entry_is, none_there}
 use Rattle.vl_table.proofs.entries.Entries.look.Goals as goal

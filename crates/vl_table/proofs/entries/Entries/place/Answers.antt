@@ -1,5 +1,5 @@
 use Rattle.std.proofs.Common.{◌+◌, ◌-◌, ◌/◌, ◌<◌, sym, ◌∙◌, arith, length}
-use Rattle.vl_run.specs.Lookups.{is_ahead}
+use Rattle.vl_model.specs.Lookups.{is_ahead}
 use Rattle.vl_table.proofs.EntrySteps.{entry_is, goes_down, goes_up, prefix-within, starts-counted}
 use Rattle.vl_table.proofs.entries.Entries.place.Goals as goal
 

@@ -1,7 +1,7 @@
 use Rattle.std.proofs.Common.{◌-◌, ◌≤◌, List, length}
 use Rattle.std.specs.List.{prefix_len}
 use Rattle.vl_model.specs.declared.entry.Entry.{Entry}
-use Rattle.vl_run.specs.Lookups.{is_ahead}
+use Rattle.vl_model.specs.Lookups.{is_ahead}
 use Rattle.vl_table.specs.Scans.{Lists}
 use Rattle.vl_table.proofs.EntrySteps.{Between}
 use Rattle.vl_table.proofs.entries.Entries.place.Given as goal

@@ -1,8 +1,8 @@
 use Rattle.std.proofs.Common.{◌≡◌, ◌<◌, ◌-◌, ◌∙◌, ℕ, List, ap, arith, drop, get_or, length, length-drop, subst, sym, take}
 use Rattle.std.proofs.lemmas.List.{take_all}
 use Rattle.vl_model.specs.declared.entry.Entry.{Entry}
-use Rattle.vl_block.specs.Entries.{entry_of}
-use Rattle.vl_block.specs.Starts.{StartsAt}
+use Rattle.vl_table.specs.body.Entries.{entry_of}
+use Rattle.vl_table.specs.body.Starts.{StartsAt}
 use Rattle.vl_table.proofs.OpenSteps.{said_here}
 use Rattle.vl_table.proofs.open_block.OpenBlock.get.Goals as goal
 

@@ -4,15 +4,15 @@ use Rattle.std.specs.Option.{option_map}
 use Rattle.std.proofs.lemmas.Result.{err_from_is_err_and}
 use Rattle.vl_model.specs.Winners.{exact}
 use Rattle.vl_model.specs.declared.entry.Entry.{Entry}
-use Rattle.vl_run.specs.Lookups.{first_over, if_exact}
-use Rattle.vl_block.specs.Cutting.{blocks}
-use Rattle.vl_block.specs.Founds.{found_of}
-use Rattle.vl_block.specs.declared.found.Found.{Found}
+use Rattle.vl_model.specs.Lookups.{first_over, if_exact}
+use Rattle.vl_model.specs.Cutting.{blocks}
+use Rattle.vl_table.specs.body.Founds.{found_of}
+use Rattle.vl_table.specs.declared.body.found.Found.{Found}
 use Rattle.vl_table.specs.Answers.{Answers}
 use Rattle.vl_table.specs.Meets.{LooksIn}
 use Rattle.vl_table.specs.Seeks.{IsBadBlock}
 use Rattle.vl_table.specs.Tables.{IsOf, number_of, shape_of}
-use Rattle.vl_table.specs.declared.fault.TableFault.{TableFault}
+use Rattle.vl_disk.specs.declared.read_fault.ReadFault.{ReadFault}
 use Rattle.vl_table.specs.laws.KeyRanges.{exact-none}
 use Rattle.vl_table.specs.laws.RangeLaws.{holds_none}
 use Rattle.vl_table.proofs.AnswerSteps.{and_then, fails, gives, none_needed}
@@ -37,7 +37,7 @@ pub returns-in_err-found-clause-answers : goal.returns-in_err-found-clause-answe
 returns-in_err-found-clause-answers g c = λ files reads.
     let t = c.args.self.now in
     let p = err_from_is_err_and c.from_residual.result c.from_residual.ensures.1 in
-    subst (λ (r : Result (Option Found) TableFault). Answers (g.R.Reader.faults c.args.reader.now.reader)
+    subst (λ (r : Result (Option Found) ReadFault). Answers (g.R.Reader.faults c.args.reader.now.reader)
     (g.R.Reader.faults c.seek.new.reader.reader)
     (number_of c.args.self.now) (g.H.HeldFile.bytes c.args.self.now.held)
     (λ bytes found. (es : List Entry) → IsOf g.H.HeldFile.bytes c.args.self.now es
@@ -53,7 +53,7 @@ returns-clause-looks g c = λ files reads holds bytes told.
 pub returns-in_err-found-clause-looks : goal.returns-in_err-found-clause-looks
 returns-in_err-found-clause-looks g c = λ files reads holds.
     let p = err_from_is_err_and c.from_residual.result c.from_residual.ensures.1 in
-    subst (λ (r : Result (Option Found) TableFault). LooksIn g.H.HeldFile.bytes (if_exact c.args.key.now c.args.version)
+    subst (λ (r : Result (Option Found) ReadFault). LooksIn g.H.HeldFile.bytes (if_exact c.args.key.now c.args.version)
     c.args.self.now c.args.key.now c.args.version r) (sym p.1) tt
 
 pub returns-in_err-found-clause-no_memory : goal.returns-in_err-found-clause-no_memory

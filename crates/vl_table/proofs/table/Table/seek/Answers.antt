@@ -2,10 +2,10 @@ use Rattle.std.proofs.Common.{◌≡◌, ◌<◌, ◌≤◌, ◌∷◌, [], ◌�
 use Rattle.std.specs.Prelude.{Result, Err}
 use Rattle.std.specs.List.{prefix_len}
 use Rattle.std.proofs.lemmas.Result.{err_from_is_err_and}
-use Rattle.vl_run.specs.Lookups.{if_of_key, is_below, IsParted}
-use Rattle.vl_block.specs.declared.found.Found.{Found}
-use Rattle.vl_block.specs.declared.index.BlockPlace.{BlockPlace}
-use Rattle.vl_block.specs.declared.shape.TableShape.{TableShape}
+use Rattle.vl_model.specs.Lookups.{if_of_key, is_below, IsParted}
+use Rattle.vl_table.specs.declared.body.found.Found.{Found}
+use Rattle.vl_table.specs.declared.body.index.BlockPlace.{BlockPlace}
+use Rattle.vl_table.specs.declared.body.shape.TableShape.{TableShape}
 use Rattle.vl_table.specs.Answers.{Answers}
 use Rattle.vl_table.specs.Kept.{id_of}
 use Rattle.vl_table.specs.KeptBlocks.{ReadsOf}
@@ -15,7 +15,7 @@ use Rattle.vl_table.specs.Tables.{number_of, shape_of}
 use Rattle.vl_table.proofs.KeptSteps.{place_at}
 use Rattle.vl_table.proofs.SeekSteps.{Finds, finds_none, found_here, load_fails, looks_here, looks_none, moves_on}
 use Rattle.vl_table.proofs.SeekSteps.{says_at, says_other, seeks}
-use Rattle.vl_table.specs.declared.fault.TableFault.{TableFault}
+use Rattle.vl_disk.specs.declared.read_fault.ReadFault.{ReadFault}
 use Rattle.vl_table.proofs.table.Table.seek.Goals as goal
 
 pub loop-at-init : goal.loop-at-init
@@ -44,7 +44,7 @@ returns-in_err-load-clause-answers g c = λ files reads.
     let within : c.loop-at.at < length (shape_of c.args.self.now).blocks.items = omega (arith, c.loop-at-test.true, ap length places) in
     let p = place_at (shape_of c.args.self.now).blocks.items c.loop-at.at within in
     let e = err_from_is_err_and c.from_residual.result c.from_residual.ensures.1 in
-    subst (λ (r : Result (Option Found) TableFault). Answers (g.R.Reader.faults c.args.reader.now.reader)
+    subst (λ (r : Result (Option Found) ReadFault). Answers (g.R.Reader.faults c.args.reader.now.reader)
     (g.R.Reader.faults c.load.new.self.reader)
     (number_of c.args.self.now) (g.H.HeldFile.bytes c.args.self.now.held)
     (Finds g.H.HeldFile.bytes c.args.self.now c.args.key.now c.args.version) (IsBadBlock (shape_of c.args.self.now)) r)
@@ -159,5 +159,5 @@ returns-clause-looks g c = λ files reads.
 pub returns-in_err-load-clause-looks : goal.returns-in_err-load-clause-looks
 returns-in_err-load-clause-looks g c = λ files reads.
     let e = err_from_is_err_and c.from_residual.result c.from_residual.ensures.1 in
-    subst (λ (r : Result (Option Found) TableFault). LooksIn g.H.HeldFile.bytes (if_of_key c.args.key.now)
+    subst (λ (r : Result (Option Found) ReadFault). LooksIn g.H.HeldFile.bytes (if_of_key c.args.key.now)
     c.args.self.now c.args.key.now c.args.version r) (sym e.1) tt

@@ -1,5 +1,5 @@
 use Rattle.std.proofs.Common.{◌≡◌, ◌≤◌, [], List, length, take}
-use Rattle.vl_block.specs.Cutting.{joined}
+use Rattle.vl_model.specs.Cutting.{joined}
 use Rattle.vl_model.specs.declared.entry.Entry.{Entry}
 use Rattle.vl_table.specs.OfTables.{AreOf}
 use Rattle.vl_version.specs.Gathered.{Adds}

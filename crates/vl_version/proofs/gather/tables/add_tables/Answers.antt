@@ -1,7 +1,7 @@
 use Rattle.std.proofs.Common.{ap, sym, ◌∙◌, Some}
-use Rattle.vl_block.specs.Cutting.{joined}
+use Rattle.vl_model.specs.Cutting.{joined}
 use Rattle.vl_model.specs.declared.span.Span.{Span}
-use Rattle.vl_run.specs.Order.{along, within}
+use Rattle.vl_model.specs.EntryOrder.{along, within}
 use Rattle.vl_version.proofs.TableSources.{adds_cursor, adds_without, no_items, some_items}
 use Rattle.vl_version.proofs.gather.tables.add_tables.Goals as goal
 

@@ -2,9 +2,9 @@ use Rattle.std.specs.Prelude.{Ok, Err, Option, Result}
 use Rattle.std.specs.Option.{option_map}
 use Rattle.std.proofs.Common.{◌∙◌, ◌++◌, ap, sym, subst, List}
 use Rattle.std.proofs.lemmas.Result.{err_from_is_err_and}
-use Rattle.vl_block.specs.Founds.{found_of}
-use Rattle.vl_block.specs.declared.found.Found.{Found}
-use Rattle.vl_table.specs.declared.fault.TableFault.{TableFault}
+use Rattle.vl_table.specs.body.Founds.{found_of}
+use Rattle.vl_table.specs.declared.body.found.Found.{Found}
+use Rattle.vl_disk.specs.declared.read_fault.ReadFault.{ReadFault}
 use Rattle.vl_table.specs.KeptBlocks.{ReadsOf}
 use Rattle.vl_table.specs.declared.table.Table.{Table}
 use Rattle.vl_version.specs.levels.LevelTables.{AreAllApart, AreAllRanged, all_tables}
@@ -33,7 +33,7 @@ returns-in_err-best-clause-answers g c = λ files reads.
     (option_map (found_of c.args.key.now) c.args.newer)
     (g.R.Reader.faults c.args.reader.now.reader) (g.R.Reader.faults c.look_in_each.new.reader.reader) (Err c.in_err-best.field-0.0))
     c.deref.ensures.value (c.in_err-best.ensures.answers files front) in
-    subst (λ (r : Result (Option Found) TableFault). LooksOn bytes_of
+    subst (λ (r : Result (Option Found) ReadFault). LooksOn bytes_of
     (self.newest.items ++ all_tables self.deeper.items) (AreInOrder self) c.args.look
     c.args.key.now (option_map (found_of c.args.key.now) c.args.newer) (g.R.Reader.faults c.args.reader.now.reader)
     (g.R.Reader.faults c.look_in_each.new.reader.reader) r) (sym (p.1 ∙ ap Err p.2))
@@ -104,7 +104,7 @@ returns-in_err-best-clause-looks g c = λ files reads laid.
     let front = subst (ReadsOf bytes_of files c.args.reader.now) (sym c.deref.ensures.value)
     (read_front bytes_of files c.args.reader.now self.newest.items (all_tables self.deeper.items) reads) in
     let p = err_from_is_err_and c.from_residual.result c.from_residual.ensures.1 in
-    subst (λ (r : Result (Option Found) TableFault). LooksInAll bytes_of c.args.look c.args.key.now
+    subst (λ (r : Result (Option Found) ReadFault). LooksInAll bytes_of c.args.look c.args.key.now
     (option_map (found_of c.args.key.now) c.args.newer) (self.newest.items ++ all_tables self.deeper.items) r)
     (sym (p.1 ∙ ap Err p.2))
     (in_all-front bytes_of c.args.look c.args.key.now self.newest.items (all_tables self.deeper.items)

@@ -2,20 +2,20 @@ use Rattle.std.specs.Prelude.{ℕ, List, Option, Result}
 use Rattle.std.specs.Option.{option_map}
 use Rattle.std.proofs.Common.{◌≡◌, sym, subst}
 use Rattle.vl_model.specs.declared.entry.Entry.{Entry}
-use Rattle.vl_block.specs.Founds.{found_of}
-use Rattle.vl_block.specs.declared.found.Found.{Found}
+use Rattle.vl_table.specs.body.Founds.{found_of}
+use Rattle.vl_table.specs.declared.body.found.Found.{Found}
 use Rattle.vl_table.specs.Answers.{Answers}
 use Rattle.vl_table.specs.Meets.{LooksIn}
 use Rattle.vl_table.specs.Seeks.{IsBadBlock}
 use Rattle.vl_table.specs.Tables.{IsOf, number_of, shape_of}
-use Rattle.vl_table.specs.declared.fault.TableFault.{TableFault}
+use Rattle.vl_disk.specs.declared.read_fault.ReadFault.{ReadFault}
 use Rattle.vl_table.specs.declared.table.Table.{Table}
 use Rattle.vl_version.specs.levels.Looks.{makes, place_version, sought}
 use Rattle.vl_version.specs.declared.levels.look.Look.{Look}
 use Rattle.vl_version.proofs.levels.lookup.ask.Goals as goal
 
 abbrev Answered : {H : Type 0} → (H → Option (List ℕ)) → Table H → List ℕ → (before now : ℕ)
-    → Result (Option Found) TableFault → Look → Type 0
+    → Result (Option Found) ReadFault → Look → Type 0
 Answered bytes_of t key before now r look =
     Answers {T = Option Found} before now (number_of t) (bytes_of t.held)
     (λ bytes found. (es : List Entry) → IsOf bytes_of t es → option_map (found_of key) found ≡ sought look key es)

@@ -2,11 +2,11 @@ use Rattle.std.specs.Prelude.{ℕ, Bool, true, false, List, Ok, Err, None, Resul
 use Rattle.std.specs.Option.{option_map}
 use Rattle.std.proofs.Common.{◌≡◌, ◌∙◌, ◌∷◌, [], ap, refl, sym, subst}
 use Rattle.std.proofs.lemmas.Result.{err_from_is_err_and}
-use Rattle.vl_block.specs.Founds.{found_of}
-use Rattle.vl_block.specs.declared.found.Found.{Found}
-use Rattle.vl_block.specs.declared.shape.TableShape.{TableShape}
+use Rattle.vl_table.specs.body.Founds.{found_of}
+use Rattle.vl_table.specs.declared.body.found.Found.{Found}
+use Rattle.vl_table.specs.declared.body.shape.TableShape.{TableShape}
 use Rattle.vl_table.specs.Tables.{shape_of}
-use Rattle.vl_table.specs.declared.fault.TableFault.{TableFault}
+use Rattle.vl_disk.specs.declared.read_fault.ReadFault.{ReadFault}
 use Rattle.vl_table.specs.declared.table.Table.{Table}
 use Rattle.vl_version.specs.levels.LookedUp.{LooksInAll, LooksOn}
 use Rattle.vl_version.specs.levels.Looks.{is_wanted}
@@ -31,7 +31,7 @@ returns-then-not-is_wanted-clause-answers g c = λ files reads.
 pub returns-in_err-older-clause-answers : goal.returns-in_err-older-clause-answers
 returns-in_err-older-clause-answers g c = λ files reads.
     let p = err_from_is_err_and c.from_residual.result c.from_residual.ensures.1 in
-    subst (λ (r : Result (Option Found) TableFault). LooksOn g.H.HeldFile.bytes (c.args.table.now ∷ []) (Unit {0})
+    subst (λ (r : Result (Option Found) ReadFault). LooksOn g.H.HeldFile.bytes (c.args.table.now ∷ []) (Unit {0})
     c.args.look c.args.key.now
     (option_map (found_of c.args.key.now) c.args.best) (g.R.Reader.faults c.args.reader.now.reader)
     (g.R.Reader.faults c.ask.new.reader.reader) r)
@@ -56,13 +56,13 @@ returns-clause-looks g c = λ files reads.
     (c.better.ensures.counts c.args.key.now)
     (λ refused. let unread = (c.in_ok-older.ensures.unread refused).0 in cc) (c.in_ok-older.ensures.looks files reads))
 
-other_answer : (e : TableFault) (x : Option Found) → ◌≡◌ {A = Result (Option Found) TableFault} (Err e) (Ok x) → ⊥
+other_answer : (e : ReadFault) (x : Option Found) → ◌≡◌ {A = Result (Option Found) ReadFault} (Err e) (Ok x) → ⊥
 other_answer e x is = cc
 
 pub returns-in_err-older-clause-looks : goal.returns-in_err-older-clause-looks
 returns-in_err-older-clause-looks g c = λ files reads.
     let p = err_from_is_err_and c.from_residual.result c.from_residual.ensures.1 in
-    subst (λ (r : Result (Option Found) TableFault). LooksInAll g.H.HeldFile.bytes c.args.look c.args.key.now
+    subst (λ (r : Result (Option Found) ReadFault). LooksInAll g.H.HeldFile.bytes c.args.look c.args.key.now
     (option_map (found_of c.args.key.now) c.args.best) (c.args.table.now ∷ []) r) (sym (p.1 ∙ ap Err p.2))
     (stops_here g.H.HeldFile.bytes c.args.look c.args.key.now (option_map (found_of c.args.key.now) c.args.best)
     c.args.table.now _ _ _ c.in_err-older.field-0.0
@@ -87,5 +87,5 @@ returns-clause-unread g c = λ refused.
     let unread = c.in_ok-older.ensures.unread no in
     (ap Ok (c.better.ensures.same (inside c.in_ok-older.older None unread.0)), unread.1)
   where
-    inside : (x y : Option Found) → ◌≡◌ {A = Result (Option Found) TableFault} (Ok x) (Ok y) → x ≡ y
+    inside : (x y : Option Found) → ◌≡◌ {A = Result (Option Found) ReadFault} (Ok x) (Ok y) → x ≡ y
     inside x y is = cc

@@ -1,6 +1,6 @@
 use Rattle.std.specs.Option.{option_map}
 use Rattle.std.proofs.Common.{◌<◌, arith, length, refl}
-use Rattle.vl_block.specs.Founds.{found_of}
+use Rattle.vl_table.specs.body.Founds.{found_of}
 use Rattle.vl_version.proofs.looking.LookSteps.{level_asks, level_past}
 use Rattle.vl_version.proofs.looking.ReadsOfSome.{read_at}
 use Rattle.vl_version.proofs.looking.Through.{laid-parted, level_reached, reaches}

@@ -2,7 +2,7 @@ use Rattle.std.specs.Prelude.{Err}
 use Rattle.std.specs.Option.{option_map}
 use Rattle.std.proofs.Common.{◌∙◌, ap, sym}
 use Rattle.std.proofs.lemmas.Result.{err_from_is_err_and}
-use Rattle.vl_block.specs.Founds.{found_of}
+use Rattle.vl_table.specs.body.Founds.{found_of}
 use Rattle.vl_version.specs.levels.Marks.{mark_if}
 use Rattle.vl_version.proofs.marking.TellLaws.{failed_in, looked_in, passed}
 use Rattle.vl_version.proofs.levels.marking.mark_of.Goals as goal

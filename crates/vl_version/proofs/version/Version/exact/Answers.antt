@@ -2,7 +2,7 @@ use Rattle.std.specs.Prelude.{Err, Ok, None, Some}
 use Rattle.std.specs.Option.{option_copied, option_map}
 use Rattle.std.proofs.Common.{◌∙◌, ap, sym}
 use Rattle.std.proofs.lemmas.Result.{err_from_is_err_and}
-use Rattle.vl_block.specs.Founds.{found_of}
+use Rattle.vl_table.specs.body.Founds.{found_of}
 use Rattle.vl_version.specs.declared.behind.Behind.{Behind}
 use Rattle.vl_version.proofs.marking.VersionLaws.{SourcesHave, TablesHave, held_first, held_told, memory_wanted}
 use Rattle.vl_version.proofs.marking.VersionLaws.{tables_failed, tables_first, tables_told}

@@ -2,8 +2,8 @@ use Rattle.std.proofs.Common.{◌∙◌, Option, ap, sym}
 use Rattle.std.specs.Option.{option_copied}
 use Rattle.vl_model.specs.Winners.{exact}
 use Rattle.vl_model.specs.declared.entry.Entry.{Entry}
-use Rattle.vl_run.specs.Lookups.{or_else}
-use Rattle.vl_run.specs.laws.Exact.{exact-append}
+use Rattle.vl_model.specs.Lookups.{or_else}
+use Rattle.vl_model.specs.laws.Exact.{exact-append}
 use Rattle.vl_version.specs.Sources.{held_entries}
 use Rattle.vl_version.specs.declared.behind.Behind.{Behind}
 use Rattle.vl_version.proofs.version.Version.exact_held.Goals as goal

@@ -2,8 +2,8 @@ use Rattle.std.proofs.Common.{ap, sym, subst, ◌∙◌, List, Option}
 use Rattle.std.specs.Prelude.{Err, Ok}
 use Rattle.std.specs.Option.{option_map}
 use Rattle.std.proofs.lemmas.Result.{err_from_is_err_and}
-use Rattle.vl_block.specs.Founds.{found_of}
-use Rattle.vl_block.specs.declared.found.Found.{Found as TableFound}
+use Rattle.vl_table.specs.body.Founds.{found_of}
+use Rattle.vl_table.specs.declared.body.found.Found.{Found as TableFound}
 use Rattle.vl_disk.specs.Faults.{HasCause}
 use Rattle.vl_model.specs.Winners.{newest_of, winner}
 use Rattle.vl_model.specs.declared.entry.Entry.{Entry}

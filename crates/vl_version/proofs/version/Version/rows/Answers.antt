@@ -2,9 +2,9 @@ use Rattle.std.proofs.Common.{◌≡◌, ◌++◌, [], ap, refl, sym, subst, ◌
 use Rattle.std.specs.FinMap.{entries}
 use Rattle.std.specs.List.{flat_map}
 use Rattle.std.specs.Option.{option_map}
-use Rattle.vl_block.specs.Cutting.{joined}
+use Rattle.vl_model.specs.Cutting.{joined}
 use Rattle.vl_merge.specs.MergeOf.{merge_of}
-use Rattle.vl_merge.specs.Merging.{merged}
+use Rattle.vl_model.specs.Merging.{merged}
 use Rattle.vl_merge.specs.declared.hides.Hides.TheVariants as hiding
 use Rattle.vl_merge.specs.Visible.{visible}
 use Rattle.vl_model.specs.Winners.{resolved_at, winner}

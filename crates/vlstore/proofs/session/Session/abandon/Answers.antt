@@ -10,16 +10,16 @@ use Rattle.vl_turn.specs.Locks.{lock_name, lock_start}
 use Rattle.std.proofs.Common.{ℕ}
 use Rattle.std.specs.Option.{option_map}
 use Rattle.vl_compact.specs.Progress.{made_of}
-use Rattle.vl_core.specs.declared.kept.Core.{Core}
+use Rattle.vl_engine_laws.specs.declared.kept.Core.{Core}
 use Rattle.vl_engine.specs.Merging.{HasMerge, StandsOpen}
-use Rattle.vl_layout.specs.Decides.{Answered, Outcome, as_before, no_effects}
-use Rattle.vl_layout.specs.Jobs.{Made, job_ended}
-use Rattle.vl_layout.specs.LockHistory.{IsOwn, nothing_open, open_job}
-use Rattle.vl_layout.specs.Ruling.{leaving}
-use Rattle.vl_layout.specs.Rulings.Abandon.{abandon_ruling}
-use Rattle.vl_layout.specs.declared.job.Job.{Job}
-use Rattle.vl_layout.specs.declared.lock_history.LockStep.TheVariants.{JobEnded}
-use Rattle.vl_layout.specs.laws.OwnThings.{open_job-is}
+use Rattle.vl_engine_model.specs.Decides.{Answered, Outcome, as_before, no_effects}
+use Rattle.vl_engine_model.specs.Jobs.{Made, job_ended}
+use Rattle.vl_engine_model.specs.LockHistory.{IsOwn, nothing_open, open_job}
+use Rattle.vl_engine_model.specs.Ruling.{leaving}
+use Rattle.vl_engine_model.specs.Rulings.Abandon.{abandon_ruling}
+use Rattle.vl_engine_model.specs.declared.job.Job.{Job}
+use Rattle.vl_engine_model.specs.declared.lock_history.LockStep.TheVariants.{JobEnded}
+use Rattle.vl_engine_model.specs.laws.OwnThings.{open_job-is}
 use Rattle.vlstore.specs.Entries.{abandon_entry}
 use Rattle.vlstore.specs.Handing.{IsUnderWayIn}
 use Rattle.vlstore.specs.Standing.{IsWhole}

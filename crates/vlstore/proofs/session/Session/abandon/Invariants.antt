@@ -1,9 +1,9 @@
 use Rattle.std.specs.Prelude.{ℕ, None}
 use Rattle.std.specs.Option.{option_map}
 use Rattle.vl_compact.specs.Progress.{made_of}
-use Rattle.vl_layout.specs.Decides.{Answered}
-use Rattle.vl_layout.specs.LockHistory.{open_job}
-use Rattle.vl_layout.specs.declared.job.Job.{Job}
+use Rattle.vl_engine_model.specs.Decides.{Answered}
+use Rattle.vl_engine_model.specs.LockHistory.{open_job}
+use Rattle.vl_engine_model.specs.declared.job.Job.{Job}
 use Rattle.vlstore.specs.Entries.{abandon_entry}
 use Rattle.vlstore.proofs.Planning.{job_or}
 use Rattle.vlstore.specs.Knowing.{session_in}

@@ -3,7 +3,7 @@ use Rattle.std.specs.Prelude.{true, IsSome}
 use Rattle.vl_compact.specs.declared.job.Job.{Job}
 use Rattle.vl_disk.specs.DiskState.{new_file}
 use Rattle.vl_engine.specs.Merging.{fresh_outcome}
-use Rattle.vl_layout.specs.Rulings.Fresh.{fresh_ruling}
+use Rattle.vl_engine_model.specs.Rulings.Fresh.{fresh_ruling}
 use Rattle.vl_version.specs.Bases as bases
 use Rattle.vl_version.specs.declared.base.Base.{Base}
 use Rattle.vlstore.specs.Entries.{fresh_entry}

@@ -14,11 +14,11 @@ use Rattle.vl_model.specs.Keys.{key_cmp}
 use Rattle.vl_engine.specs.Answers.{commit_effects, commit_outcome}
 use Rattle.vl_engine.specs.Sees.{asked}
 use Rattle.vl_engine.specs.declared.txn.Txn.{Txn}
-use Rattle.vl_layout.specs.Decides.{as_before}
-use Rattle.vl_layout.specs.LockHistory.{number_of, open_tickets}
-use Rattle.vl_layout.specs.Ruling.{ended}
-use Rattle.vl_layout.specs.Rulings.Commit.{commit_lost, commit_ruling}
-use Rattle.vl_layout.specs.declared.lock_history.LockStep.TheVariants.{Ended}
+use Rattle.vl_engine_model.specs.Decides.{as_before}
+use Rattle.vl_engine_model.specs.LockHistory.{number_of, open_tickets}
+use Rattle.vl_engine_model.specs.Ruling.{ended}
+use Rattle.vl_engine_model.specs.Rulings.Commit.{commit_lost, commit_ruling}
+use Rattle.vl_engine_model.specs.declared.lock_history.LockStep.TheVariants.{Ended}
 use Rattle.vl_model.specs.Notes.{AreNotesOf}
 use Rattle.vl_model.specs.Reads.{Read}
 use Rattle.vlstore.specs.Knowing.{Knows}

@@ -10,11 +10,11 @@ use Rattle.vl_turn.specs.Locks.{lock_name, lock_start}
 use Rattle.vl_turn.specs.Entries.{with_entry}
 use Rattle.std.specs.Option.{ForSome}
 use Rattle.vl_compact.specs.Laid.{AreBoth}
-use Rattle.vl_core.specs.declared.kept.Core.{Core}
+use Rattle.vl_engine_laws.specs.declared.kept.Core.{Core}
 use Rattle.vl_engine.specs.Merging.{HasMerge, StandsOpen, plan_outcome}
-use Rattle.vl_layout.specs.Decides.{as_before, no_effects}
-use Rattle.vl_layout.specs.Rulings.Drain.{drain_ruling}
-use Rattle.vl_layout.specs.declared.job.Job.{Job}
+use Rattle.vl_engine_model.specs.Decides.{as_before, no_effects}
+use Rattle.vl_engine_model.specs.Rulings.Drain.{drain_ruling}
+use Rattle.vl_engine_model.specs.declared.job.Job.{Job}
 use Rattle.vlstore.specs.Entries.{plan_entry}
 use Rattle.vlstore.specs.Handing.{IsUnderWayIn}
 use Rattle.vlstore.proofs.Collecting.{collects_past, drain_leaves, same_logs}

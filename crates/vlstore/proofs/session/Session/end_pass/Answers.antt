@@ -9,12 +9,12 @@ use Rattle.vlstore.proofs.Lending.{merges_left}
 use Rattle.vlstore.proofs.Faults.{always_answers}
 use Rattle.vlstore.proofs.Sessions.{knowing, may_enter, on_after, over, session_after, stepped_after, number_now, own_is}
 use Rattle.vl_turn.specs.Locks.{lock_name, lock_start}
-use Rattle.vl_layout.specs.Decides.{Answered, Outcome, as_before, no_effects}
-use Rattle.vl_layout.specs.LockHistory.{open_pass}
-use Rattle.vl_layout.specs.Relocation.{Pass}
-use Rattle.vl_layout.specs.Ruling.{leaving}
-use Rattle.vl_layout.specs.Rulings.EndPass.{without_pass}
-use Rattle.vl_layout.specs.declared.lock_history.LockStep.TheVariants.{PassEnded}
+use Rattle.vl_engine_model.specs.Decides.{Answered, Outcome, as_before, no_effects}
+use Rattle.vl_engine_model.specs.LockHistory.{open_pass}
+use Rattle.vl_engine_model.specs.Relocation.{Pass}
+use Rattle.vl_engine_model.specs.Ruling.{leaving}
+use Rattle.vl_engine_model.specs.Rulings.EndPass.{without_pass}
+use Rattle.vl_engine_model.specs.declared.lock_history.LockStep.TheVariants.{PassEnded}
 use Rattle.vlstore.specs.Knowing.{Knows}
 use Rattle.vlstore.proofs.Tickets.{pass_open, merge_kept}
 use Rattle.vlstore.proofs.Wholes.{always_by}

@@ -11,11 +11,11 @@ use Rattle.vlstore.proofs.Sessions.{knowing, may_enter, on_after, over, session_
 use Rattle.vl_turn.specs.Locks.{lock_name, lock_start}
 use Rattle.vl_engine.specs.Flushing.{flush_effects}
 use Rattle.vl_engine.specs.Stepping.{step_outcome}
-use Rattle.vl_layout.specs.Decides.{as_before}
+use Rattle.vl_engine_model.specs.Decides.{as_before}
 use Rattle.std.specs.Option.{option_map}
-use Rattle.vl_layout.specs.declared.job.OpenJob.{OpenJob}
-use Rattle.vl_layout.specs.Rulings.Flush.{flush_ruling}
-use Rattle.vl_layout.specs.declared.lock_history.LockStep.TheVariants.{Changed}
+use Rattle.vl_engine_model.specs.declared.job.OpenJob.{OpenJob}
+use Rattle.vl_engine_model.specs.Rulings.Flush.{flush_ruling}
+use Rattle.vl_engine_model.specs.declared.lock_history.LockStep.TheVariants.{Changed}
 use Rattle.vlstore.proofs.Collecting.{told_some}
 use Rattle.vlstore.proofs.Steps.{flush_leads}
 use Rattle.vlstore.proofs.Wholes.{flush_job, still_open, whole_by}

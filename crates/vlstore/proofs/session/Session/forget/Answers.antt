@@ -11,10 +11,10 @@ use Rattle.vlstore.proofs.Sessions.{knowing, may_enter, on_after, over, session_
 use Rattle.vl_turn.specs.Locks.{lock_name, lock_start}
 use Rattle.vl_engine.specs.Lent.{Opens}
 use Rattle.vl_engine.specs.declared.txn.Txn.{Txn}
-use Rattle.vl_layout.specs.Decides.{Answered, Outcome, as_before, no_effects}
-use Rattle.vl_layout.specs.LockHistory.{number_of, open_tickets}
-use Rattle.vl_layout.specs.Ruling.{ended, leaving}
-use Rattle.vl_layout.specs.declared.lock_history.LockStep.TheVariants.{Ended}
+use Rattle.vl_engine_model.specs.Decides.{Answered, Outcome, as_before, no_effects}
+use Rattle.vl_engine_model.specs.LockHistory.{number_of, open_tickets}
+use Rattle.vl_engine_model.specs.Ruling.{ended, leaving}
+use Rattle.vl_engine_model.specs.declared.lock_history.LockStep.TheVariants.{Ended}
 use Rattle.vlstore.specs.Knowing.{Knows}
 use Rattle.vlstore.proofs.Collecting.{collects_on}
 use Rattle.vlstore.proofs.Steps.{ends_lead}

@@ -8,10 +8,10 @@ use Rattle.vlstore.proofs.Faults.{fresh_fails, unfailing}
 use Rattle.vlstore.proofs.Sessions.{knowing, may_enter, number_now, on_after, over, own_is, session_after, stepped_after}
 use Rattle.vl_turn.specs.Locks.{lock_name, lock_start}
 use Rattle.vl_engine.specs.Merging.{StandsOpen, fresh_effects, fresh_outcome}
-use Rattle.vl_layout.specs.Decides.{as_before}
-use Rattle.vl_layout.specs.LockHistory.{IsOwn}
-use Rattle.vl_layout.specs.Rulings.Fresh.{fresh_ruling}
-use Rattle.vl_layout.specs.declared.lock_history.LockStep.TheVariants.{Changed}
+use Rattle.vl_engine_model.specs.Decides.{as_before}
+use Rattle.vl_engine_model.specs.LockHistory.{IsOwn}
+use Rattle.vl_engine_model.specs.Rulings.Fresh.{fresh_ruling}
+use Rattle.vl_engine_model.specs.declared.lock_history.LockStep.TheVariants.{Changed}
 use Rattle.vlstore.specs.Entries.{done_by, fresh_done, fresh_entry}
 use Rattle.vlstore.specs.Handing.{IsLentTo, IsUnderWayIn}
 use Rattle.vlstore.proofs.Calls.{stands_on}

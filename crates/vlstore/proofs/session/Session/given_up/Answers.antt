@@ -1,7 +1,7 @@
 use Rattle.std.proofs.Common.{refl, subst}
 use Rattle.vl_compact.specs.Progress.{made_of}
-use Rattle.vl_layout.specs.Decides.{Answered}
-use Rattle.vl_layout.specs.Rulings.Abandon.{abandon_ruling}
+use Rattle.vl_engine_model.specs.Decides.{Answered}
+use Rattle.vl_engine_model.specs.Rulings.Abandon.{abandon_ruling}
 use Rattle.vlstore.specs.Entries.{abandon_entry}
 use Rattle.vlstore.specs.Handing.{IfHandedBack}
 use Rattle.vlstore.specs.Merging.{IsWork}

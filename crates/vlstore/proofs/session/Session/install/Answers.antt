@@ -11,17 +11,17 @@ use Rattle.vl_turn.specs.Entries.{with_entry}
 use Rattle.std.proofs.Common.{ℕ}
 use Rattle.std.specs.Option.{option_map}
 use Rattle.vl_compact.specs.Progress.{made_of}
-use Rattle.vl_core.specs.MayStep.{AreLogFiles}
-use Rattle.vl_core.specs.Represents.{Represents}
+use Rattle.vl_engine_laws.specs.MayStep.{AreLogFiles}
+use Rattle.vl_engine_laws.specs.Represents.{Represents}
 use Rattle.vl_engine.specs.Installing.{install_otherwise}
 use Rattle.vl_engine.specs.Merging.{HasAllMerge, HasMerge, StandsOpen, install_effects, install_outcome}
-use Rattle.vl_layout.specs.Decides.{Decides}
-use Rattle.vl_layout.specs.Jobs.{Made, job_ended}
-use Rattle.vl_layout.specs.LockHistory.{IsOwn, nothing_open, open_job}
-use Rattle.vl_layout.specs.Rulings.Install.{install_ruling}
-use Rattle.vl_layout.specs.declared.job.Job.{Job}
-use Rattle.vl_layout.specs.declared.lock_history.LockStep.TheVariants.{JobEnded}
-use Rattle.vl_layout.specs.laws.OwnThings.{open_job-is}
+use Rattle.vl_engine_model.specs.Decides.{Decides}
+use Rattle.vl_engine_model.specs.Jobs.{Made, job_ended}
+use Rattle.vl_engine_model.specs.LockHistory.{IsOwn, nothing_open, open_job}
+use Rattle.vl_engine_model.specs.Rulings.Install.{install_ruling}
+use Rattle.vl_engine_model.specs.declared.job.Job.{Job}
+use Rattle.vl_engine_model.specs.declared.lock_history.LockStep.TheVariants.{JobEnded}
+use Rattle.vl_engine_model.specs.laws.OwnThings.{open_job-is}
 use Rattle.vlstore.specs.Entries.{done_by, install_entry}
 use Rattle.std.specs.Option.{ForSome}
 use Rattle.vlstore.specs.Handing.{IsHandedInto, job_back}

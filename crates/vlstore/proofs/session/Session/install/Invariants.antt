@@ -2,8 +2,8 @@ use Rattle.std.specs.Prelude.{ℕ, None}
 use Rattle.std.specs.Option.{option_map}
 use Rattle.vl_compact.specs.Progress.{made_of}
 use Rattle.vl_engine.specs.Merging.{install_outcome}
-use Rattle.vl_layout.specs.LockHistory.{open_job}
-use Rattle.vl_layout.specs.declared.job.Job.{Job}
+use Rattle.vl_engine_model.specs.LockHistory.{open_job}
+use Rattle.vl_engine_model.specs.declared.job.Job.{Job}
 use Rattle.vlstore.specs.Entries.{install_entry}
 use Rattle.vlstore.proofs.Planning.{job_or}
 use Rattle.vlstore.specs.Knowing.{session_in}

@@ -4,12 +4,12 @@ use Rattle.vl_compact.specs.Laid.{AreBoth}
 use Rattle.vl_compact.specs.Progress.{made_of}
 use Rattle.vl_disk.specs.declared.errors.NoMemory.{NoMemory}
 use Rattle.vl_engine.specs.Merging.{HasMerge, install_outcome, plan_outcome}
-use Rattle.vl_layout.specs.Decides.{Answered}
-use Rattle.vl_layout.specs.Merging.{merged_entries}
-use Rattle.vl_layout.specs.Rulings.Abandon.{abandon_ruling}
-use Rattle.vl_layout.specs.Rulings.Install.{Installed, install_ruling}
-use Rattle.vl_layout.specs.Rulings.Plan.{plan_ruling}
-use Rattle.vl_layout.specs.declared.job.Job.{Job}
+use Rattle.vl_engine_model.specs.Decides.{Answered}
+use Rattle.vl_engine_model.specs.Merging.{merged_entries}
+use Rattle.vl_engine_model.specs.Rulings.Abandon.{abandon_ruling}
+use Rattle.vl_engine_model.specs.Rulings.Install.{Installed, install_ruling}
+use Rattle.vl_engine_model.specs.Rulings.Plan.{plan_ruling}
+use Rattle.vl_engine_model.specs.declared.job.Job.{Job}
 use Rattle.vlstore.specs.Entries.{abandon_entry, install_entry, plan_entry}
 use Rattle.vlstore.specs.Knowing.{Stepped}
 use Rattle.vlstore.specs.Merging.{IsWork, PutIn}

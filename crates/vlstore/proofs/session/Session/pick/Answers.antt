@@ -11,10 +11,10 @@ use Rattle.vlstore.proofs.Sessions.{knowing, may_enter, on_after, over, session_
 use Rattle.vl_turn.specs.Locks.{lock_name, lock_start}
 use Rattle.std.specs.Option.{option_map}
 use Rattle.vl_engine.specs.Collecting.{IsPicked, pick_outcome}
-use Rattle.vl_layout.specs.Decides.{as_before, no_effects}
-use Rattle.vl_layout.specs.LockHistory.{open_pass}
-use Rattle.vl_layout.specs.Rulings.Pick.{PickAnswer, pick_ruling}
-use Rattle.vl_layout.specs.declared.job.OpenJob.{OpenJob}
+use Rattle.vl_engine_model.specs.Decides.{as_before, no_effects}
+use Rattle.vl_engine_model.specs.LockHistory.{open_pass}
+use Rattle.vl_engine_model.specs.Rulings.Pick.{PickAnswer, pick_ruling}
+use Rattle.vl_engine_model.specs.declared.job.OpenJob.{OpenJob}
 use Rattle.vlstore.specs.Knowing.{Knows, own_in}
 use Rattle.vlstore.specs.Standing.{IsBehind}
 use Rattle.vlstore.proofs.Leading.{goes_by}

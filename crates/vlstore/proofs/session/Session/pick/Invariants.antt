@@ -1,4 +1,4 @@
-use Rattle.vl_layout.specs.Rulings.Pick.{pick_ruling}
+use Rattle.vl_engine_model.specs.Rulings.Pick.{pick_ruling}
 use Rattle.vlstore.specs.Entries.{entry_of}
 use Rattle.vlstore.specs.Knowing.{session_in}
 use Rattle.vlstore.specs.Lists.{history_by, layout_by}

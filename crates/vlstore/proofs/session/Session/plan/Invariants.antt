@@ -1,4 +1,4 @@
-use Rattle.vl_layout.specs.Rulings.Plan.{plan_ruling}
+use Rattle.vl_engine_model.specs.Rulings.Plan.{plan_ruling}
 use Rattle.vlstore.specs.Entries.{entry_of}
 use Rattle.vlstore.proofs.Planning.{plan_did}
 use Rattle.vlstore.specs.Knowing.{session_in}

@@ -1,4 +1,4 @@
-use Rattle.vl_layout.specs.Decides.{Answered}
+use Rattle.vl_engine_model.specs.Decides.{Answered}
 use Rattle.vlstore.specs.Entries.{end_entry}
 use Rattle.vlstore.specs.Knowing.{session_in}
 use Rattle.vlstore.specs.Lists.{history_by, layout_by}

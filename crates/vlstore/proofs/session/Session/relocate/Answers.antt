@@ -8,11 +8,11 @@ use Rattle.vlstore.proofs.Sessions.{knowing, may_enter, on_after, over, session_
 use Rattle.vl_turn.specs.Locks.{lock_name, lock_start}
 use Rattle.std.proofs.Common.{List, []}
 use Rattle.vl_engine.specs.Relocating.{move_effects, move_outcome}
-use Rattle.vl_layout.specs.Decides.{Decides, as_before}
-use Rattle.vl_layout.specs.Relocation.{Candidate, Pass}
-use Rattle.vl_layout.specs.Ruling.{Ruling}
-use Rattle.vl_layout.specs.Rulings.Relocate.{MoveAnswer, relocate_ruling}
-use Rattle.vl_layout.specs.declared.lock_history.LockStep.TheVariants.{Changed}
+use Rattle.vl_engine_model.specs.Decides.{Decides, as_before}
+use Rattle.vl_engine_model.specs.Relocation.{Candidate, Pass}
+use Rattle.vl_engine_model.specs.Ruling.{Ruling}
+use Rattle.vl_engine_model.specs.Rulings.Relocate.{MoveAnswer, relocate_ruling}
+use Rattle.vl_engine_model.specs.declared.lock_history.LockStep.TheVariants.{Changed}
 use Rattle.vlstore.specs.Entries.{done_by, entry_by, move_done, relocate_entry}
 use Rattle.vlstore.specs.Handing.{HasLasted}
 use Rattle.vlstore.specs.Standing.{IsWhole}

@@ -11,9 +11,9 @@ use Rattle.vlstore.proofs.Sessions.{knowing, may_enter, on_after, over, session_
 use Rattle.vl_turn.specs.Locks.{lock_name, lock_start}
 use Rattle.vl_engine.specs.Rotating.{rotate_effects}
 use Rattle.vl_engine.specs.Stepping.{step_outcome}
-use Rattle.vl_layout.specs.Decides.{as_before}
-use Rattle.vl_layout.specs.Rulings.Rotate.{rotate_ruling, rotated}
-use Rattle.vl_layout.specs.declared.lock_history.LockStep.TheVariants.{Changed}
+use Rattle.vl_engine_model.specs.Decides.{as_before}
+use Rattle.vl_engine_model.specs.Rulings.Rotate.{rotate_ruling, rotated}
+use Rattle.vl_engine_model.specs.declared.lock_history.LockStep.TheVariants.{Changed}
 use Rattle.vlstore.proofs.Steps.{rotate_leads}
 use Rattle.vlstore.proofs.Wholes.{rotate_job, still_open, whole_by}
 use Rattle.vlstore.proofs.Tickets.{merge_kept}

@@ -5,7 +5,7 @@ use Rattle.vlstore.specs.Lists.{history_by, layout_by}
 use Rattle.vlstore.specs.Standing.{NeverFails, Stands, parts}
 use Rattle.vlstore.proofs.Sessions.{knowing, looked_after, on_after, over, session_after, own_is}
 use Rattle.vl_turn.specs.Locks.{lock_name, lock_start}
-use Rattle.vl_layout.specs.Rulings.Stats.{stats_ruling}
+use Rattle.vl_engine_model.specs.Rulings.Stats.{stats_ruling}
 use Rattle.vlstore.proofs.session.Session.stats.Goals as goal
 
 pub finish-requires-clause-stands : goal.finish-requires-clause-stands

@@ -10,9 +10,9 @@ use Rattle.vl_turn.specs.Locks.{lock_name, lock_start}
 use Rattle.std.proofs.Common.{ℕ}
 use Rattle.vl_engine.specs.Merging.{StandsOpen}
 use Rattle.vl_engine.specs.Sweeping.{gone_before, sweep_effects, sweep_otherwise, sweep_outcome, up_to}
-use Rattle.vl_layout.specs.Decides.{Decides}
-use Rattle.vl_layout.specs.Rulings.Sweep.{sweep_lost, sweep_ruling}
-use Rattle.vl_layout.specs.declared.lock_history.LockStep.TheVariants.{Changed}
+use Rattle.vl_engine_model.specs.Decides.{Decides}
+use Rattle.vl_engine_model.specs.Rulings.Sweep.{sweep_lost, sweep_ruling}
+use Rattle.vl_engine_model.specs.declared.lock_history.LockStep.TheVariants.{Changed}
 use Rattle.vlstore.specs.Entries.{done_by, sweep_done, sweep_entry}
 use Rattle.vlstore.specs.Standing.{IsWhole}
 use Rattle.vlstore.proofs.Calls.{leaves_merge, stands_on}

@@ -2,9 +2,9 @@ use Rattle.std.proofs.Common.{refl, ap}
 use Rattle.std.specs.Prelude.{[]}
 use Rattle.vl_engine.specs.Merging.{StandsOpen}
 use Rattle.vl_engine.specs.Relocating.{IsOfPass, move_effects, move_outcome}
-use Rattle.vl_layout.specs.Decides.{as_before}
-use Rattle.vl_layout.specs.Relocation.{Pass}
-use Rattle.vl_layout.specs.Rulings.Relocate.{relocate_ruling}
+use Rattle.vl_engine_model.specs.Decides.{as_before}
+use Rattle.vl_engine_model.specs.Relocation.{Pass}
+use Rattle.vl_engine_model.specs.Rulings.Relocate.{relocate_ruling}
 use Rattle.vlstore.specs.Standing.{parts}
 use Rattle.vlstore.proofs.Collecting.{collects_past, relocate_leaves, same_logs}
 use Rattle.vlstore.proofs.Faults.{move_unfailing}

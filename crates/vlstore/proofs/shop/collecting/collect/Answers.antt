@@ -1,6 +1,6 @@
 use Rattle.std.proofs.Common.{refl, sym, ◌∙◌, subst}
 use Rattle.vl_engine.specs.Collecting.{pick_outcome}
-use Rattle.vl_layout.specs.Rulings.Pick.{pick_ruling}
+use Rattle.vl_engine_model.specs.Rulings.Pick.{pick_ruling}
 use Rattle.vlstore.specs.Entries.{pick_entry}
 use Rattle.vlstore.specs.Knowing.{IsOwnPass}
 use Rattle.vlstore.specs.Merging.{IsWork}

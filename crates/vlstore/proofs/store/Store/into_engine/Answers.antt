@@ -1,6 +1,6 @@
 use Rattle.std.proofs.Common.{List, subst}
 use Rattle.std.specs.Prelude.{is_some}
-use Rattle.vl_layout.specs.declared.lock_history.LockEntry.{LockEntry}
+use Rattle.vl_engine_model.specs.declared.lock_history.LockEntry.{LockEntry}
 use Rattle.vlstore.specs.Knowing.{Knows}
 use Rattle.vlstore.specs.Standing.{NeverFails, Stands, parts}
 use Rattle.vlstore.specs.Stores.{Left}

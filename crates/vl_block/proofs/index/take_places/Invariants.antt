@@ -1,6 +1,0 @@
-use Rattle.vl_block.specs.Index.{places}
-use Rattle.vl_block.specs.laws.ListLaws.{SoFar}
-use Rattle.vl_block.proofs.index.take_places.Given as goal
-
-abbrev pub invariant-loop : goal.invariant-loop
-invariant-loop l = SoFar places l.bytes l.count l.counter l.blocks.items l.rest

@@ -1,5 +1,0 @@
-use Rattle.vl_layout.proofs.GarbageLaws.{points_are_sums}
-use Rattle.vl_layout.proofs.laws.points_are_sums.Goals as goal
-
-pub returns : goal.returns
-returns c segment es = points_are_sums segment es

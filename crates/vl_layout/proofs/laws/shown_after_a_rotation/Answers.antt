@@ -1,5 +1,0 @@
-use Rattle.vl_layout.specs.laws.RulingShows.{rotate_ruling-shows}
-use Rattle.vl_layout.proofs.laws.shown_after_a_rotation.Goals as goal
-
-pub returns : goal.returns
-returns c logs from l h shows = rotate_ruling-shows logs from l h shows

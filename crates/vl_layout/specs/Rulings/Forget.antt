@@ -1,8 +1,0 @@
--- A transaction is given up.
-use Rattle.vl_model.specs.History.{History}
-use Rattle.vl_layout.specs.Ruling.{Ruling, leaving, ended}
-use Rattle.vl_layout.specs.Rulings.Commit.{Transaction}
-use Rattle.vl_layout.specs.declared.layout.Layout.{Layout}
-
-abbrev pub forget_ruling : Layout → History → Transaction → Ruling (Unit {0})
-forget_ruling l h t = leaving tt h (ended t.ticket l)

@@ -1,5 +1,0 @@
-use Rattle.vl_layout_laws.specs.laws.Moves.{batch_settled}
-use Rattle.vl_layout_laws.proofs.laws.a_moved_batch_wins_no_more.Goals as goal
-
-pub returns : goal.returns
-returns c segment last l batch low = batch_settled segment last l batch low

@@ -1,3 +1,0 @@
-mod Along
-mod MergeSteps
-mod Spans

@@ -1,6 +1,0 @@
-use Rattle.std.proofs.Common.{take}
-use Rattle.vl_run.specs.Heads.{AreHeads}
-use Rattle.vl_run.proofs.heads.heads_of.Given as goal
-
-abbrev pub invariant-loop-entry : goal.invariant-loop-entry
-invariant-loop-entry l = AreHeads l.heads.items (take l.entry-index l.entries)

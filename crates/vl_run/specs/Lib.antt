@@ -1,4 +1,0 @@
-pub mod laws
-pub mod Heads
-pub mod Lookups
-pub mod Order

@@ -1,0 +1,36 @@
+-- A line that wasn't answered.
+use Rattle.std.specs.Prelude.{Result, Ok, Err}
+use Rattle.vl_script_model.specs.declared.fails.Halt.{Halt}
+use Rattle.vl_script_model.specs.declared.fails.Halt.TheVariants.{NoMemory, Disk, Read, Damaged}
+
+-- the disk failed
+abbrev pub HaltsByDisk : {T : Type 0} → Result T Halt → Type 0
+HaltsByDisk (Ok answer) = ⊥
+HaltsByDisk (Err NoMemory) = ⊥
+HaltsByDisk (Err (Disk name)) = Unit {0}
+HaltsByDisk (Err (Read name)) = ⊥
+HaltsByDisk (Err (Damaged name place)) = ⊥
+
+-- a read met damage, or its reader failed
+abbrev pub HaltsByRead : {T : Type 0} → Result T Halt → Type 0
+HaltsByRead (Ok answer) = ⊥
+HaltsByRead (Err NoMemory) = ⊥
+HaltsByRead (Err (Disk name)) = ⊥
+HaltsByRead (Err (Read name)) = Unit {0}
+HaltsByRead (Err (Damaged name place)) = Unit {0}
+
+-- a read met damage
+abbrev pub HaltsByDamage : {T : Type 0} → Result T Halt → Type 0
+HaltsByDamage (Ok answer) = ⊥
+HaltsByDamage (Err NoMemory) = ⊥
+HaltsByDamage (Err (Disk name)) = ⊥
+HaltsByDamage (Err (Read name)) = ⊥
+HaltsByDamage (Err (Damaged name place)) = Unit {0}
+
+-- a read failed by its reader
+abbrev pub HaltsByReader : {T : Type 0} → Result T Halt → Type 0
+HaltsByReader (Ok answer) = ⊥
+HaltsByReader (Err NoMemory) = ⊥
+HaltsByReader (Err (Disk name)) = ⊥
+HaltsByReader (Err (Read name)) = Unit {0}
+HaltsByReader (Err (Damaged name place)) = ⊥

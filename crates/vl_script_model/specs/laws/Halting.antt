@@ -1,0 +1,44 @@
+-- Where memory ran out, no disk failed.
+use Rattle.std.proofs.Common.{◌≡◌, Result, Ok, Err, sym, ◌∙◌, ap, subst}
+use Rattle.std.specs.Prelude.{IfErr, IsErrAnd}
+use Rattle.vl_script_model.specs.Halts.{HaltsByDisk, HaltsByRead}
+use Rattle.vl_script_model.specs.declared.fails.Halt.{Halt}
+use Rattle.vl_script_model.specs.declared.fails.Halt.TheVariants as why
+
+-- a line that is halted by nothing else isn't halted by the disk
+pub not_by_disk : {T : Type 0} (result : Result T Halt) → IfErr result (λ halt. halt ≡ why.NoMemory) → HaltsByDisk result → ⊥
+not_by_disk (Ok answer) out by = by
+not_by_disk (Err why.NoMemory) out by = by
+not_by_disk (Err (why.Disk name)) out by = cc
+not_by_disk (Err (why.Read name)) out by = by
+not_by_disk (Err (why.Damaged name place)) out by = by
+
+pub out_not_by_disk : {T : Type 0} (result : Result T Halt) → IsErrAnd result (λ halt. halt ≡ why.NoMemory) → HaltsByDisk result → ⊥
+out_not_by_disk (Ok answer) out by = by
+out_not_by_disk {T} (Err halt) out by = not_by_disk {T = T} (Err halt) out by
+
+-- nor by a read
+pub out_readable : {T : Type 0} (result : Result T Halt) → IsErrAnd result (λ halt. halt ≡ why.NoMemory) → HaltsByRead result → ⊥
+out_readable (Ok answer) out by = by
+out_readable (Err why.NoMemory) out by = by
+out_readable (Err (why.Disk name)) out by = by
+out_readable (Err (why.Read name)) out by = cc
+out_readable (Err (why.Damaged name place)) out by = cc
+
+-- a halt that is handed on is the same
+pub by_disk_still : {T U : Type 0} (carried : Result U Halt) (result : Result T Halt) (halt : Halt) → carried ≡ Err halt
+    → IsErrAnd result (λ other. other ≡ halt) → HaltsByDisk result → HaltsByDisk carried
+by_disk_still carried (Ok answer) halt was is by = absurd by
+by_disk_still {U = U} carried (Err why.NoMemory) halt was is by = absurd by
+by_disk_still {U = U} carried (Err (why.Read name)) halt was is by = absurd by
+by_disk_still {U = U} carried (Err (why.Damaged name place)) halt was is by = absurd by
+by_disk_still {U = U} carried (Err (why.Disk name)) halt was is by = subst (λ (r : Result U Halt). HaltsByDisk r) (ap Err is ∙ sym was) tt
+
+pub by_read_still : {T U : Type 0} (carried : Result U Halt) (result : Result T Halt) (halt : Halt) → carried ≡ Err halt
+    → IsErrAnd result (λ other. other ≡ halt) → HaltsByRead result → HaltsByRead carried
+by_read_still carried (Ok answer) halt was is by = absurd by
+by_read_still carried (Err why.NoMemory) halt was is by = absurd by
+by_read_still carried (Err (why.Disk name)) halt was is by = absurd by
+by_read_still {U = U} carried (Err (why.Read name)) halt was is by = subst (λ (r : Result U Halt). HaltsByRead r) (ap Err is ∙ sym was) tt
+by_read_still {U = U} carried (Err (why.Damaged name place)) halt was is by = subst
+    (λ (r : Result U Halt). HaltsByRead r) (ap Err is ∙ sym was) tt

@@ -1,0 +1,25 @@
+use std::alloc::AllocError;
+use thiserror::Error;
+
+/// Why an entry wasn't added to a table.
+#[derive(Clone, Copy, Debug, PartialEq, Eq, Error)]
+pub enum AddFail {
+    /// Memory ran out, or the table would have 2^32 bytes or more.
+    #[error("no memory")]
+    NoMemory,
+    /// The entry may not stand in a table, or not behind the last one: its key has no lawful length, a value of more than
+    /// 64 bytes stands beside it, it has both a value and a pointer as a memtable's may, or its place isn't behind.
+    #[error("not lawful")]
+    NotLawful,
+}
+
+impl From<AllocError> for AddFail {
+    ghost use Rattle.std.specs.Prelude.{◌≡◌};
+    ghost use Rattle.vl_table.specs.declared.writer.add_fail.AddFail.TheVariants as why;
+
+    ghost from_gives = { λ _ e. e ≡ why.NoMemory };
+
+    fn from(_: AllocError) -> Self {
+        AddFail::NoMemory
+    }
+}

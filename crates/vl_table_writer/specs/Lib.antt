@@ -1,5 +1,0 @@
-pub mod Bodies
-pub mod Framing
-pub mod PointSums
-pub mod Tails
-pub mod Writing
