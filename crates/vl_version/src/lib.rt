@@ -39,7 +39,6 @@ mod wanted;
 
 pub use base::Base;
 pub use behind::Behind;
-pub use fault::ReadFault;
 pub use flushing::FlushedVersion;
 pub use found::Found;
 pub use levels::{Level, Levels};
