@@ -40,5 +40,6 @@ pub use job_reader::JobReader;
 pub use laws::merges_are_as_ruled;
 pub use parts::Parts;
 pub use planning::{drained, planned};
+pub use racing::numbers_of;
 pub use ready::ReadyLevels;
 pub use replacing::ready_levels;

@@ -4,19 +4,21 @@ use Rattle.std.specs.Prelude.{Result, Err, Ok}
 use Rattle.std.proofs.Common.{sym, ap, subst, ◌∙◌, refl, arith}
 use Rattle.std.proofs.lemmas.List.{length-map}
 use Rattle.std.proofs.lemmas.Bool.Decides.{nat_tests}
-use Rattle.vl_engine.specs.Answers.{begin_outcome, view_outcome}
-use Rattle.vl_engine.specs.Past.{ShowsPast, beginning, past_now}
+use Rattle.vl_steps.specs.Answers.{begin_outcome, view_outcome}
+use Rattle.vl_reads.specs.Past.{ShowsPast, beginning}
+use Rattle.vl_engine.specs.Beginning.{past_now}
 use Rattle.vl_engine_laws.specs.Pointed.{layout_logs}
 use Rattle.vl_engine_laws.specs.Represents.{Fronts, StandsFor}
-use Rattle.vl_engine.specs.Sees.{SeesAlone, ShowsAt}
+use Rattle.vl_reads.specs.Sees.{SeesAlone, ShowsAt}
 use Rattle.vl_engine_laws.specs.declared.kept.Core.{Core}
-use Rattle.vl_engine.specs.declared.past.Past.{Past}
-use Rattle.vl_engine.specs.declared.txn.Txn.{Txn}
-use Rattle.vl_engine.specs.declared.view.View.{View}
+use Rattle.vl_reads.specs.declared.past.Past.{Past}
+use Rattle.vl_reads.specs.declared.txn.Txn.{Txn}
+use Rattle.vl_reads.specs.declared.view.View.{View}
 use Rattle.vl_engine_laws.specs.laws.LaidLaws.{laid_entries}
 use Rattle.vl_engine_laws.specs.laws.LiveLaws.{same_floor, same_free_ticket}
 use Rattle.vl_engine_laws.specs.laws.SparedLaws.{are_of, low_exact}
-use Rattle.vl_engine.specs.laws.SeesLaws.{file_in, files_laid, shows_last}
+use Rattle.vl_engine_laws.specs.laws.TableFiles.{file_in, reads_version}
+use Rattle.vl_reads.specs.laws.SeesLaws.{shows_last}
 use Rattle.vl_front.specs.declared.front.Front.{Front}
 use Rattle.vl_engine_model.specs.AtAnswer.{Beginning, beginning_of}
 use Rattle.vl_engine_model.specs.Decides.{Answered, Decides, NoMemory, as_before, no_effects}
@@ -38,8 +40,6 @@ use Rattle.vl_oracle.specs.declared.begin_fail.BeginFail.{BeginFail}
 use Rattle.vl_oracle.specs.declared.begin_fail.BeginFail.TheVariants as fails
 use Rattle.vl_table.specs.Kept.{Files}
 use Rattle.vl_table.specs.KeptBlocks.{AreKept, ReadsOf}
-use Rattle.vl_table.specs.declared.block_reader.BlockReader.{BlockReader}
-use Rattle.vl_version.specs.Bases as bases
 use Rattle.vl_version.specs.Sources.{tables_in}
 use Rattle.vl_version.specs.declared.version.Version.{Version}
 
@@ -122,6 +122,12 @@ pub refused_so : {H R : Type 0} (result : Result (Txn H R) BeginFail) (why : Beg
 refused_so (Ok txn) why is = absurd is
 refused_so {H} {R} (Err e) why is = refused_alike H R why ∙ ap (λ (f : BeginFail). begin_outcome {H = H} {R = R} (Err f)) (sym is)
 
+-- a transaction begins as the view does from which it is made
+pub begun_alike : {H R : Type 0} (view : View H R) (txn : Txn H R) → txn.ticket ≡ view.ticket → txn.number ≡ view.number
+    → view_outcome {H = H} {R = R} (Ok view) ≡ begin_outcome {H = H} {R = R} (Ok txn)
+begun_alike view txn ticket number =
+    ap (λ (n : ℕ). Answered (Begun n view.number)) (sym ticket) ∙ ap (λ (n : ℕ). Answered (Begun txn.ticket n)) (sym number)
+
 -- ---- by the oracle
 
 module _ {H : Type 0} (core : Core H) (h : History) (l : Layout) (is : Fronts core h l) where
@@ -193,16 +199,6 @@ module _ {H : Type 0} (bytes : H → Option (List ℕ)) (core : Core H) (h : His
     shows_past = past_version past same;
   }
 
-  reads_version : {R : Type 0} (reader : BlockReader R) → AreKept (file_in bytes (tables_in core.version)) reader
-      → ReadsOf bytes (file_in bytes (tables_in core.version)) reader (tables_in core.version)
-  reads_version reader kept = record { kept = kept; told = files_laid bytes core.version l is.has is.tidy.levels }
-
-  -- so that look-ups of its sources are told
-  pub looks_told : {R : Type 0} (reader : BlockReader R) → ((files : Files) → AreKept files reader)
-      → bases.Fits bytes core.version reader
-  looks_told reader kept =
-      (file_in bytes (tables_in core.version), reads_version reader (kept (file_in bytes (tables_in core.version))))
-
   pub sees_now : {R : Type 0} (view : View H R) → view.version ≡ core.version → view.number ≡ last_number h
       → view.past ≡ past_now core → ((files : Files) → AreKept files view.reader) → SeesAlone bytes view h
   sees_now view same last past kept = record {
@@ -210,5 +206,5 @@ module _ {H : Type 0} (bytes : H → Option (List ℕ)) (core : Core H) (h : His
         (subst (ShowsAt bytes core.version view.past h) (sym last) (sees_version view.past past));
     files = file_in bytes (tables_in core.version);
     reader = subst (λ (v : Version H). ReadsOf bytes (file_in bytes (tables_in core.version)) view.reader (tables_in v)) (sym same)
-        (reads_version view.reader (kept (file_in bytes (tables_in core.version))));
+        (reads_version bytes core h l is view.reader (kept (file_in bytes (tables_in core.version))));
   }

@@ -3,11 +3,11 @@ use Rattle.std.specs.Prelude.{◌≡◌, ℕ, Bool, Option, None, Some, Result, 
 use Rattle.std.proofs.Common.{sym, ap, subst, ◌∙◌, arith}
 use Rattle.vl_engine_laws.specs.Represents.{Fronts}
 use Rattle.vl_engine_laws.specs.declared.kept.Core.{Core}
-use Rattle.vl_engine.proofs.StillRemoved.{removes_alike}
-use Rattle.vl_engine.specs.Pinning.{PinsMerge, PinsPass, merge_pinned, pass_pinned}
-use Rattle.vl_engine.specs.Removing.{Removes}
-use Rattle.vl_engine.specs.declared.fails.PickFail.{PickFail}
-use Rattle.vl_engine.specs.declared.open.Removing.{Removing}
+use Rattle.vl_space.specs.laws.StillRemoved.{removes_alike}
+use Rattle.vl_space.specs.Pinning.{PinsMerge, PinsPass, merge_pinned, pass_pinned}
+use Rattle.vl_space.specs.Removing.{Removes}
+use Rattle.vl_space.specs.declared.fails.PickFail.{PickFail}
+use Rattle.vl_space.specs.declared.kept.Removing.{Removing}
 use Rattle.vl_engine_model.specs.Rulings.Pick.{with_pass}
 use Rattle.vl_engine_model.specs.Rulings.Plan.{with_job}
 use Rattle.vl_engine_model.specs.declared.job.Job.{Job}

@@ -18,15 +18,16 @@ use Rattle.vl_disk.specs.declared.name.Name.TheVariants.{Log, Table}
 use Rattle.vl_disk.specs.declared.name.Name.{Name}
 use Rattle.vl_disk.specs.declared.watched.Watched.{Ghosts}
 use Rattle.vl_disk.specs.declared.writer.Writer.{Ghosts as Writers}
-use Rattle.vl_engine.proofs.DrawFits.{lent_elsewhere, none_has}
-use Rattle.vl_engine.proofs.There.Kept.{KnowsSame, StandStill, in_use_kept, stands_not_free, waiting_kept}
-use Rattle.vl_engine.specs.Drawing.{IsLentMore, IsSameMerge, drawn_core, lent_new}
-use Rattle.vl_engine.specs.Lent.{AreLent, LeavesLent}
-use Rattle.vl_engine.specs.Removing.{AreInUse, HasInUse, IsLeft, IsStockOf, IsThere, IsWaiting, Removes, UsesThoseOf}
-use Rattle.vl_engine.specs.Removing.{all_retired, are_distinct, are_unused, is_none_of, lent_in, logs_in_use, numbers_left}
-use Rattle.vl_engine.specs.Removing.{standing_names, tables_in_use, with_number}
-use Rattle.vl_engine.specs.declared.open.OpenMerge.{OpenMerge}
-use Rattle.vl_engine.specs.declared.open.Removing.{Removing}
+use Rattle.vl_steps.specs.laws.DrawFits.{lent_elsewhere, none_has}
+use Rattle.vl_space.specs.laws.There.Kept.{KnowsSame, StandStill, in_use_kept, stands_not_free, waiting_kept}
+use Rattle.vl_steps.specs.Drawing.{IsLentMore, IsSameMerge, drawn_core, lent_new}
+use Rattle.vl_engine_laws.specs.Lent.{AreLent, LeavesLent}
+use Rattle.vl_space.specs.Removing.{AreInUse, HasInUse, IsLeft, IsStockOf, IsThere, IsWaiting, Removes, UsesThoseOf}
+use Rattle.vl_space.specs.Removing.{all_retired, are_distinct, are_unused, is_none_of, logs_in_use, numbers_left}
+use Rattle.vl_engine_laws.specs.Lent.{lent_in}
+use Rattle.vl_space.specs.Removing.{standing_names, tables_in_use, with_number}
+use Rattle.vl_engine_laws.specs.declared.open.OpenMerge.{OpenMerge}
+use Rattle.vl_space.specs.declared.kept.Removing.{Removing}
 use Rattle.vl_engine_model.specs.Jobs.{lent_numbers}
 use Rattle.vl_engine_model.specs.Rulings.Fresh.{drawn, lent_to}
 use Rattle.vl_engine_model.specs.declared.job.OpenJob.{OpenJob}

@@ -6,14 +6,14 @@ use Rattle.vl_engine_laws.specs.Represents.{Fronts, file_of}
 use Rattle.vl_engine_laws.specs.declared.kept.Core.{Core}
 use Rattle.vl_engine_laws.specs.laws.KeepLaws.{keep_made}
 use Rattle.vl_disk.specs.declared.watched.Watched.{Ghosts}
-use Rattle.vl_engine.proofs.Committing.{decides_answered, decides_failed, decides_short}
-use Rattle.vl_engine.proofs.KeptBy.{ruled_made, runs_on, two_counted}
-use Rattle.vl_engine.proofs.StillRemoved.{pins_alike, removes_alike, removes_halted, removes_same}
-use Rattle.vl_engine.specs.Keeping.{KeepsAs, keep_effects, keep_outcome}
-use Rattle.vl_engine.specs.Removing.{Removes}
-use Rattle.vl_engine.specs.declared.fails.KeepFail.TheVariants as fails
-use Rattle.vl_engine.specs.declared.fails.KeepFail.{KeepFail}
-use Rattle.vl_engine.specs.declared.open.Removing.{Removing}
+use Rattle.vl_steps.specs.laws.Committing.{decides_answered, decides_failed, decides_short}
+use Rattle.vl_steps.specs.laws.KeptBy.{ruled_made, runs_on, two_counted}
+use Rattle.vl_space.specs.laws.StillRemoved.{pins_alike, removes_alike, removes_halted, removes_same}
+use Rattle.vl_steps.specs.Keeping.{KeepsAs, keep_effects, keep_outcome}
+use Rattle.vl_space.specs.Removing.{Removes}
+use Rattle.vl_steps.specs.declared.fails.KeepFail.TheVariants as fails
+use Rattle.vl_steps.specs.declared.fails.KeepFail.{KeepFail}
+use Rattle.vl_space.specs.declared.kept.Removing.{Removing}
 use Rattle.vl_engine_model.specs.Decides.{Answered, Decides, as_before, no_effects}
 use Rattle.vl_engine_model.specs.Ruling.{Ruling}
 use Rattle.vl_engine_model.specs.Rulings.Keep.{KeepAnswer, Kept, keep_ruling, keeping}

@@ -19,18 +19,19 @@ use Rattle.vl_disk.specs.declared.name.Name.{Name}
 use Rattle.vl_disk.specs.declared.name.Name.TheVariants.{Log as LogName, Table as TableName}
 use Rattle.vl_disk.specs.declared.watched.Watched.{Ghosts}
 use Rattle.vl_disk.specs.declared.writer.Writer.{Ghosts as Writers}
-use Rattle.vl_engine.proofs.There.Left.{numbers_both, standing_both}
-use Rattle.vl_engine.specs.Installing.{numbers_in}
-use Rattle.vl_engine.specs.Lent.{AreLent, IsLent}
-use Rattle.vl_engine.specs.Merging.{HasMerge}
-use Rattle.vl_engine.specs.Removing.{HasInUse, IsLeft, IsStockOf, IsThere, IsWaiting, Removes}
-use Rattle.vl_engine.specs.Removing.{UsesThoseOf, all_retired}
-use Rattle.vl_engine.specs.Removing.{are_distinct, are_unused, is_none_of, lent_in, logs_in_use, numbers_left, standing_names}
-use Rattle.vl_engine.specs.Removing.{tables_in_use}
-use Rattle.vl_engine.specs.Retiring.{LeavesFiles, all_left, files_in, left_of}
+use Rattle.vl_space.specs.laws.There.Left.{numbers_both, standing_both}
+use Rattle.vl_steps.specs.Installing.{numbers_in}
+use Rattle.vl_engine_laws.specs.Lent.{AreLent, IsLent}
+use Rattle.vl_steps.specs.Merging.{HasMerge}
+use Rattle.vl_space.specs.Removing.{HasInUse, IsLeft, IsStockOf, IsThere, IsWaiting, Removes}
+use Rattle.vl_space.specs.Removing.{UsesThoseOf, all_retired}
+use Rattle.vl_space.specs.Removing.{are_distinct, are_unused, is_none_of, logs_in_use, numbers_left, standing_names}
+use Rattle.vl_engine_laws.specs.Lent.{lent_in}
+use Rattle.vl_space.specs.Removing.{tables_in_use}
+use Rattle.vl_space.specs.Retiring.{LeavesFiles, all_left, files_in, left_of}
 use Rattle.vl_engine.specs.UnderWay.{IsUnderWay}
-use Rattle.vl_engine.specs.declared.open.OpenMerge.{OpenMerge}
-use Rattle.vl_engine.specs.declared.open.Removing.{Removing}
+use Rattle.vl_engine_laws.specs.declared.open.OpenMerge.{OpenMerge}
+use Rattle.vl_space.specs.declared.kept.Removing.{Removing}
 use Rattle.vl_engine_model.specs.Jobs.{AreDistinct, Made, job_ended, loose, tables_made}
 use Rattle.vl_engine_model.specs.Merging.{outputs}
 use Rattle.vl_engine_model.specs.Sources.{numbers_of}

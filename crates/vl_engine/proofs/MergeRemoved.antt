@@ -13,26 +13,27 @@ use Rattle.vl_engine_laws.specs.laws.Carrying.{IsWatched}
 use Rattle.vl_disk.specs.declared.name.Name.{Name}
 use Rattle.vl_disk.specs.declared.watched.Watched.{Ghosts}
 use Rattle.vl_disk.specs.declared.writer.Writer.{Ghosts as Writers}
-use Rattle.vl_engine.proofs.Collected.{collects_alike}
+use Rattle.vl_space.specs.laws.CollectLaws.{collects_alike}
 use Rattle.vl_engine.proofs.LeftRemoved.{halted_none, removes_left}
-use Rattle.vl_engine.proofs.Planning.{fits_abandoned, represents_abandoned}
+use Rattle.vl_steps.specs.laws.Planning.{fits_abandoned, represents_abandoned}
 use Rattle.vl_engine.proofs.Retired.Installs.{ended_by, ended_pins, halted_other}
 use Rattle.vl_engine.proofs.UnderWay.{none_open}
 use Rattle.vl_engine.proofs.Whole.{both, ended_logs, install_by, install_history, install_keeps, joined, logs_then, lost_logs}
 use Rattle.vl_engine.proofs.Whole.{same_logs, untouched}
-use Rattle.vl_engine.specs.Collecting.{Collects}
-use Rattle.vl_engine.specs.Installing.{HandsBack, install_otherwise, numbers_in}
-use Rattle.vl_engine.specs.Lent.{Opens}
-use Rattle.vl_engine.specs.Merging.{StandsOpen, install_outcome}
-use Rattle.vl_engine.specs.Removing.{IsThere, Removes}
-use Rattle.vl_engine.specs.Retiring.{LeavesFiles, files_in}
+use Rattle.vl_space.specs.Collecting.{Collects}
+use Rattle.vl_steps.specs.Installing.{HandsBack, install_otherwise, numbers_in}
+use Rattle.vl_engine_laws.specs.Lent.{Opens}
+use Rattle.vl_engine_laws.specs.Lent.{StandsOpen}
+use Rattle.vl_steps.specs.Merging.{install_outcome}
+use Rattle.vl_space.specs.Removing.{IsThere, Removes}
+use Rattle.vl_space.specs.Retiring.{LeavesFiles, files_in}
 use Rattle.vl_engine.specs.UnderWay.{GivesUp, IfHandedBack, IsUnderWay}
 use Rattle.vl_engine.specs.Whole.{HasSameLogs, StaysFor, StaysRemoving}
-use Rattle.vl_engine.specs.declared.fails.InstallFail.TheVariants as fails
-use Rattle.vl_engine.specs.declared.fails.InstallFail.{InstallFail}
-use Rattle.vl_engine.specs.declared.open.Collecting.{Collecting}
-use Rattle.vl_engine.specs.declared.open.OpenMerge.{OpenMerge}
-use Rattle.vl_engine.specs.declared.open.Removing.{Removing}
+use Rattle.vl_steps.specs.declared.fails.InstallFail.TheVariants as fails
+use Rattle.vl_steps.specs.declared.fails.InstallFail.{InstallFail}
+use Rattle.vl_space.specs.declared.kept.Collecting.{Collecting}
+use Rattle.vl_engine_laws.specs.declared.open.OpenMerge.{OpenMerge}
+use Rattle.vl_space.specs.declared.kept.Removing.{Removing}
 use Rattle.vl_engine_model.specs.Decides.{Answered, Damaged, Decides, Effects, Failed, NoMemory, Otherwise, Outcome}
 use Rattle.vl_engine_model.specs.Jobs.{AreLent, Made, job_ended}
 use Rattle.vl_engine_model.specs.Ruling.{Ruling, halted_at}

@@ -4,11 +4,12 @@ use Rattle.std.specs.Option.{option_map}
 use Rattle.std.proofs.Common.{sym, ap, subst, ◌∙◌, arith}
 use Rattle.vl_back.specs.declared.back.Back.{Back}
 use Rattle.vl_engine_laws.specs.declared.kept.Core.{Core}
-use Rattle.vl_engine.proofs.StillRemoved.{pins_alike, removes_alike, removes_halted, removes_same}
-use Rattle.vl_engine.specs.Relocating.{NotesMoves}
-use Rattle.vl_engine.specs.Removing.{Removes, lent_in}
-use Rattle.vl_engine.specs.declared.open.OpenMerge.{OpenMerge}
-use Rattle.vl_engine.specs.declared.open.Removing.{Removing}
+use Rattle.vl_space.specs.laws.StillRemoved.{pins_alike, removes_alike, removes_halted, removes_same}
+use Rattle.vl_steps.specs.Relocating.{NotesMoves}
+use Rattle.vl_space.specs.Removing.{Removes}
+use Rattle.vl_engine_laws.specs.Lent.{lent_in}
+use Rattle.vl_engine_laws.specs.declared.open.OpenMerge.{OpenMerge}
+use Rattle.vl_space.specs.declared.kept.Removing.{Removing}
 use Rattle.vl_engine_model.specs.Decides.{Decides, Effects, Outcome, as_before}
 use Rattle.vl_engine_model.specs.Jobs.{lent_numbers}
 use Rattle.vl_engine_model.specs.Relocation.{Candidate, Pass, moved_of}

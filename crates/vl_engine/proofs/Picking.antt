@@ -15,16 +15,16 @@ use Rattle.vl_engine_laws.specs.Passing.{AreReadable}
 use Rattle.vl_engine_laws.specs.Pointed.{bytes_of_log, layout_logs, segment_at}
 use Rattle.vl_engine_laws.specs.Represents.{StandsFor}
 use Rattle.vl_engine_laws.specs.declared.kept.Core.{Core}
-use Rattle.vl_engine.proofs.Beginning.{looks_told}
-use Rattle.vl_engine.proofs.Collected.{tallies_alike, tallies_made}
-use Rattle.vl_engine.proofs.Committing.{decides_answered, decides_short}
-use Rattle.vl_engine.proofs.Tallying.{each_there}
-use Rattle.vl_engine.specs.Collecting.{BeginsOver, BeginsPass, Collects, FitsLooks, IsPicked, IsTallied, LacksLog, Tallies}
-use Rattle.vl_engine.specs.Collecting.{passed_in, pick_outcome}
-use Rattle.vl_engine.specs.declared.fails.PickFail.TheVariants as fails
-use Rattle.vl_engine.specs.declared.fails.PickFail.{PickFail}
-use Rattle.vl_engine.specs.declared.open.Collecting.{Collecting}
-use Rattle.vl_engine.specs.laws.PlannedJobs.{has_sources}
+use Rattle.vl_engine_laws.specs.laws.TableFiles.{looks_told}
+use Rattle.vl_space.specs.laws.CollectLaws.{tallies_alike, tallies_made}
+use Rattle.vl_steps.specs.laws.Committing.{decides_answered, decides_short}
+use Rattle.vl_space.specs.laws.Tallying.{each_there}
+use Rattle.vl_space.specs.Collecting.{BeginsOver, BeginsPass, Collects, FitsLooks, IsPicked, IsTallied, LacksLog, Tallies}
+use Rattle.vl_space.specs.Collecting.{passed_in, pick_outcome}
+use Rattle.vl_space.specs.declared.fails.PickFail.TheVariants as fails
+use Rattle.vl_space.specs.declared.fails.PickFail.{PickFail}
+use Rattle.vl_space.specs.declared.kept.Collecting.{Collecting}
+use Rattle.vl_steps.specs.laws.PlannedJobs.{has_sources}
 use Rattle.vl_frame.specs.Runs.{ReadsAs, run_bytes}
 use Rattle.vl_frame.specs.laws.RunLaws.{reads_whole}
 use Rattle.vl_engine_model.specs.Decides.{Decides, as_before, effects_of, no_effects}

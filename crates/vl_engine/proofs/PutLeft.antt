@@ -17,16 +17,18 @@ use Rattle.vl_disk.specs.declared.name.Name.TheVariants.{Table}
 use Rattle.vl_disk.specs.declared.watched.Watched.{Ghosts}
 use Rattle.vl_disk.specs.declared.writer.Writer.{Ghosts as Writers}
 use Rattle.vl_engine.proofs.LeftRemoved.{few, room_left, there_left}
-use Rattle.vl_engine.proofs.Retired.Changing.{readied_for}
-use Rattle.vl_engine.proofs.There.Left.{numbers_both}
-use Rattle.vl_engine.specs.Collecting.{head_in}
-use Rattle.vl_engine.specs.Installing.{IsHandedIn, numbers_in}
-use Rattle.vl_engine.specs.Lent.{AreLent}
-use Rattle.vl_engine.specs.Removing.{IsThere, are_distinct, lent_in, numbers_left}
-use Rattle.vl_engine.specs.Retiring.{HoldsNeeded, InstallsInto, IsReadied, LeavesFiles, all_left, files_in, is_idle_in, is_idle_log, left_of, switching}
-use Rattle.vl_engine.specs.Taking.{MayTake}
+use Rattle.vl_space.specs.laws.Retired.Changing.{readied_for}
+use Rattle.vl_space.specs.laws.There.Left.{numbers_both}
+use Rattle.vl_space.specs.Collecting.{head_in}
+use Rattle.vl_steps.specs.Installing.{IsHandedIn, numbers_in}
+use Rattle.vl_engine_laws.specs.Lent.{AreLent}
+use Rattle.vl_space.specs.Removing.{IsThere, are_distinct, numbers_left}
+use Rattle.vl_engine_laws.specs.Lent.{lent_in}
+use Rattle.vl_space.specs.Retiring.{HoldsNeeded, InstallsInto, IsReadied, LeavesFiles, all_left, files_in, is_idle_in, is_idle_log}
+use Rattle.vl_space.specs.Retiring.{left_of, switching}
+use Rattle.vl_steps.specs.Taking.{MayTake}
 use Rattle.vl_engine.specs.UnderWay.{IsUnderWay}
-use Rattle.vl_engine.specs.declared.open.OpenMerge.{OpenMerge}
+use Rattle.vl_engine_laws.specs.declared.open.OpenMerge.{OpenMerge}
 use Rattle.vl_engine_model.specs.Jobs.{AreDistinct}
 use Rattle.vl_model.specs.Numbers.{has}
 use Rattle.vl_pins.specs.Files.{BecomesBy, Has, HasRoom, Kept, left_at}

@@ -22,17 +22,17 @@ use Rattle.vl_disk.specs.declared.name.Name.{Name}
 use Rattle.vl_disk.specs.declared.watched.Watched.{Ghosts}
 use Rattle.vl_disk.specs.declared.writer.Writer.{Ghosts as Writers}
 use Rattle.vl_disk.specs.laws.NameMap.{get_inserted, get_inserted_other}
-use Rattle.vl_engine.proofs.KeptBy.{files_switched}
-use Rattle.vl_engine.proofs.Lending.{leaves_switch}
-use Rattle.vl_engine.proofs.PutIn.{beside_same}
-use Rattle.vl_engine.proofs.Retired.Changing.{has_some}
-use Rattle.vl_engine.proofs.Retired.Switched.{Keeps, keeps_switch, more_tables, there_by}
-use Rattle.vl_engine.proofs.Retired.There.{NamesStand, Standing, from_use, waiting_stand}
-use Rattle.vl_engine.proofs.There.Kept.{not_free_stands, stands_not_free, told_before}
-use Rattle.vl_engine.specs.Installing.{InstallsAll}
-use Rattle.vl_engine.specs.Removing.{HasInUse, IsLeft, IsThere, IsWaiting, are_unused, numbers_left, standing_names, with_number}
-use Rattle.vl_engine.specs.Retiring.{switching}
-use Rattle.vl_engine.specs.Taking.{Takes, file_of_table, with_files}
+use Rattle.vl_steps.specs.laws.KeptBy.{files_switched}
+use Rattle.vl_steps.specs.laws.Lending.{leaves_switch}
+use Rattle.vl_steps.specs.laws.PutIn.{beside_same}
+use Rattle.vl_space.specs.laws.Retired.Changing.{has_some}
+use Rattle.vl_space.specs.laws.Retired.Switched.{Keeps, keeps_switch, more_tables, there_by}
+use Rattle.vl_space.specs.laws.Retired.There.{NamesStand, Standing, from_use, waiting_stand}
+use Rattle.vl_space.specs.laws.There.Kept.{not_free_stands, stands_not_free, told_before}
+use Rattle.vl_steps.specs.Installing.{InstallsAll}
+use Rattle.vl_space.specs.Removing.{HasInUse, IsLeft, IsThere, IsWaiting, are_unused, numbers_left, standing_names, with_number}
+use Rattle.vl_space.specs.Retiring.{switching}
+use Rattle.vl_steps.specs.Taking.{Takes, file_of_table, with_files}
 use Rattle.vl_manifest.specs.Switching.{switched}
 use Rattle.vl_model.specs.Numbers.{has}
 use Rattle.vl_pins.specs.Files.{BecomesBy, Kept, kept_in, with_tables}

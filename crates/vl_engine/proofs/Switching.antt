@@ -20,16 +20,18 @@ use Rattle.vl_engine_laws.specs.declared.kept.Core.{Core}
 use Rattle.vl_engine_laws.specs.laws.FileLaws.{all_filtered}
 use Rattle.vl_engine_laws.specs.laws.LaidTables.{tables_are}
 use Rattle.vl_disk.specs.declared.writer.Writer.{Ghosts as Writers}
-use Rattle.vl_engine.proofs.Collected.{IsAlike, collects_alike, collects_kept, collects_same, decides_too, flush_by}
-use Rattle.vl_engine.proofs.Collected.{head_is_laid, inputs_are_laid, passed_alike, tallies_made}
-use Rattle.vl_engine.proofs.Tallying.{points_are}
-use Rattle.vl_engine.specs.Collecting.{Collects, HasFlushed, HasPutIn, InstallsFor, IsReadied, IsTallied, LeadsFrom, Tallies}
-use Rattle.vl_engine.specs.Collecting.{head_in, passed_in, points_in, points_made}
-use Rattle.vl_engine.specs.Installing.{InstallsCore, install_otherwise}
-use Rattle.vl_engine.specs.Merging.{HasAllMerge, install_outcome}
-use Rattle.vl_engine.specs.declared.fails.InstallFail.TheVariants as fails
-use Rattle.vl_engine.specs.declared.fails.InstallFail.{InstallFail}
-use Rattle.vl_engine.specs.declared.open.Collecting.{Collecting}
+use Rattle.vl_space.specs.laws.CollectLaws.{IsAlike, collects_alike, collects_kept, collects_same}
+use Rattle.vl_engine.proofs.Collected.{decides_too, flush_by}
+use Rattle.vl_space.specs.laws.CollectLaws.{head_is_laid, inputs_are_laid, passed_alike, tallies_made}
+use Rattle.vl_space.specs.laws.Tallying.{points_are}
+use Rattle.vl_space.specs.Collecting.{Collects, IsReadied, IsTallied, LeadsFrom, Tallies}
+use Rattle.vl_engine.specs.Space.{HasFlushed, HasPutIn, InstallsFor}
+use Rattle.vl_space.specs.Collecting.{head_in, passed_in, points_in, points_made}
+use Rattle.vl_steps.specs.Installing.{InstallsCore, install_otherwise}
+use Rattle.vl_steps.specs.Merging.{HasAllMerge, install_outcome}
+use Rattle.vl_steps.specs.declared.fails.InstallFail.TheVariants as fails
+use Rattle.vl_steps.specs.declared.fails.InstallFail.{InstallFail}
+use Rattle.vl_space.specs.declared.kept.Collecting.{Collecting}
 use Rattle.vl_engine_model.specs.Decides.{Answered, Damaged, Decides, Effects, Failed, NoMemory}
 use Rattle.vl_engine_model.specs.Jobs.{Made, tables_made}
 use Rattle.vl_engine_model.specs.Levels.{in_front, is_among}

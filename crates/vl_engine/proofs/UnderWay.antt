@@ -16,16 +16,16 @@ use Rattle.vl_disk.specs.DiskState.{DiskState, new_file}
 use Rattle.vl_disk.specs.declared.name.Name.{Name}
 use Rattle.vl_disk.specs.declared.watched.Watched.{Ghosts}
 use Rattle.vl_disk.specs.declared.writer.Writer.{Ghosts as Writers}
-use Rattle.vl_engine.specs.Drawing.{DrawsCore, FreshLeavesDisk, IsLentMore, IsNewTo, IsSameJob, IsSameMerge}
-use Rattle.vl_engine.specs.Installing.{HandsBack, InstallLeavesDisk, InstallsCore, IsHandedIn, numbers_in}
-use Rattle.vl_engine.specs.Merging.{IsJustOpen}
+use Rattle.vl_steps.specs.Drawing.{DrawsCore, FreshLeavesDisk, IsLentMore, IsNewTo, IsSameJob, IsSameMerge}
+use Rattle.vl_steps.specs.Installing.{HandsBack, InstallLeavesDisk, InstallsCore, IsHandedIn, numbers_in}
+use Rattle.vl_steps.specs.Merging.{IsJustOpen}
 use Rattle.vl_engine.specs.UnderWay.{GivesUp, IfHandedBack, IsUnderWay}
-use Rattle.vl_engine.specs.declared.fails.InstallFail.TheVariants as install
-use Rattle.vl_engine.specs.declared.fails.InstallFail.{InstallFail}
-use Rattle.vl_engine.specs.declared.fails.StepFail.TheVariants as fails
-use Rattle.vl_engine.specs.declared.fails.StepFail.{StepFail}
-use Rattle.vl_engine.specs.declared.open.OpenMerge.{OpenMerge}
-use Rattle.vl_engine.specs.declared.open.Removing.{Removing}
+use Rattle.vl_steps.specs.declared.fails.InstallFail.TheVariants as install
+use Rattle.vl_steps.specs.declared.fails.InstallFail.{InstallFail}
+use Rattle.vl_steps.specs.declared.fails.StepFail.TheVariants as fails
+use Rattle.vl_steps.specs.declared.fails.StepFail.{StepFail}
+use Rattle.vl_engine_laws.specs.declared.open.OpenMerge.{OpenMerge}
+use Rattle.vl_space.specs.declared.kept.Removing.{Removing}
 use Rattle.vl_engine_model.specs.Jobs.{AreDistinct}
 use Rattle.vl_model.specs.Numbers.{has}
 

@@ -17,24 +17,25 @@ use Rattle.vl_disk.specs.declared.name.Name.{Name}
 use Rattle.vl_disk.specs.declared.watched.Watched.{Ghosts}
 use Rattle.vl_disk.specs.declared.writer.Writer.{Ghosts as Writers}
 use Rattle.vl_engine_laws.specs.laws.Carrying.{IsWatched, opens_again, rests}
-use Rattle.vl_engine.proofs.InstallDiskTables.{made_numbers_are}
-use Rattle.vl_engine.proofs.Planning.{fits_abandoned, represents_abandoned}
+use Rattle.vl_steps.specs.laws.InstallDiskTables.{made_numbers_are}
+use Rattle.vl_steps.specs.laws.Planning.{fits_abandoned, represents_abandoned}
 use Rattle.vl_engine_laws.specs.Carries.{Carries, CrashesShow, Tells}
-use Rattle.vl_engine.specs.Drawing.{IsSameJob}
-use Rattle.vl_engine.specs.Installing.{IsHandedIn, install_otherwise, numbers_in}
-use Rattle.vl_engine.specs.Lent.{Opens}
-use Rattle.vl_engine.specs.Merging.{FitsReaders, HasAllMerge, HasMerge, StandsOpen, fresh_effects, fresh_outcome, plan_outcome}
+use Rattle.vl_steps.specs.Drawing.{IsSameJob}
+use Rattle.vl_steps.specs.Installing.{IsHandedIn, install_otherwise, numbers_in}
+use Rattle.vl_engine_laws.specs.Lent.{Opens}
+use Rattle.vl_steps.specs.Merging.{FitsReaders, HasAllMerge, HasMerge, fresh_effects, fresh_outcome, plan_outcome}
+use Rattle.vl_engine_laws.specs.Lent.{StandsOpen}
 use Rattle.vl_engine_laws.specs.Represents.{Fronts, Represents, file_of}
 use Rattle.vl_engine_laws.specs.Shown.{LeavesBetween}
 use Rattle.vl_engine_laws.specs.MayStep.{AreLogFiles, Fits}
-use Rattle.vl_engine.proofs.Collected.{IsAlike, alike_same, collects_alike, collects_same}
-use Rattle.vl_engine.specs.Collecting.{Collects}
+use Rattle.vl_space.specs.laws.CollectLaws.{IsAlike, alike_same, collects_alike, collects_same}
+use Rattle.vl_space.specs.Collecting.{Collects}
 use Rattle.vl_engine.specs.Whole.{HasSameLogs, MakesTables, StaysCollecting, StaysFor, kept_of}
-use Rattle.vl_engine.specs.declared.open.Collecting.{Collecting}
+use Rattle.vl_space.specs.declared.kept.Collecting.{Collecting}
 use Rattle.vl_engine.specs.declared.fails.MergeFail.{MergeFail}
-use Rattle.vl_engine.specs.declared.fails.StepFail.{StepFail}
+use Rattle.vl_steps.specs.declared.fails.StepFail.{StepFail}
 use Rattle.vl_engine_laws.specs.declared.kept.Core.{Core}
-use Rattle.vl_engine.specs.declared.open.OpenMerge.{OpenMerge}
+use Rattle.vl_engine_laws.specs.declared.open.OpenMerge.{OpenMerge}
 use Rattle.vl_engine_model.specs.Decides.{Answered, Damaged, Decides, Effects, Failed, NoMemory, Otherwise, Outcome, as_before, no_effects}
 use Rattle.vl_engine_model.specs.Jobs.{AreDistinct, AreLent, Made, nothing_made}
 use Rattle.vl_engine_model.specs.Levels.{due_from, inputs_at}

@@ -8,17 +8,18 @@ use Rattle.vl_engine_laws.specs.declared.kept.Core.{Core}
 use Rattle.vl_disk.specs.declared.name.Name.TheVariants as names
 use Rattle.vl_disk.specs.declared.name.Name.{Name}
 use Rattle.vl_disk.specs.declared.watched.Watched.{Ghosts}
-use Rattle.vl_engine.proofs.Committing.{accepted, answer_is, decides_answered, decides_failed, decides_short}
-use Rattle.vl_engine.proofs.StillRemoved.{IsAlike, pins_alike, removes_alike, removes_halted, removes_same}
-use Rattle.vl_engine.specs.Answers.{commit_effects, commit_outcome}
-use Rattle.vl_engine.specs.Pinning.{UnpinsAs, unpinned}
-use Rattle.vl_engine.specs.Removing.{Removes}
-use Rattle.vl_engine.specs.Steps.{WritesAs, log_of}
-use Rattle.vl_engine.specs.declared.engine.Done.TheVariants as done
-use Rattle.vl_engine.specs.declared.engine.Done.{Done}
-use Rattle.vl_engine.specs.declared.fails.CommitFail.TheVariants as fails
-use Rattle.vl_engine.specs.declared.fails.CommitFail.{CommitFail}
-use Rattle.vl_engine.specs.declared.open.Removing.{Removing}
+use Rattle.vl_steps.specs.laws.Committing.{accepted, answer_is, decides_answered, decides_failed, decides_short}
+use Rattle.vl_space.specs.laws.StillRemoved.{IsAlike, pins_alike, removes_alike, removes_halted, removes_same}
+use Rattle.vl_steps.specs.Answers.{commit_effects, commit_outcome}
+use Rattle.vl_engine.specs.Space.{UnpinsAs}
+use Rattle.vl_space.specs.Pinning.{unpinned}
+use Rattle.vl_space.specs.Removing.{Removes}
+use Rattle.vl_steps.specs.Steps.{WritesAs, log_of}
+use Rattle.vl_steps.specs.declared.done.Done.TheVariants as done
+use Rattle.vl_steps.specs.declared.done.Done.{Done}
+use Rattle.vl_steps.specs.declared.fails.CommitFail.TheVariants as fails
+use Rattle.vl_steps.specs.declared.fails.CommitFail.{CommitFail}
+use Rattle.vl_space.specs.declared.kept.Removing.{Removing}
 use Rattle.vl_engine_model.specs.Decides.{Decides, Failed, Otherwise, as_before, effects_of, no_effects}
 use Rattle.vl_engine_model.specs.Ruling.{Ruling, ended}
 use Rattle.vl_engine_model.specs.Rulings.Commit.{At, CommitAnswer, Transaction, commit_lost, commit_ruling, committed}

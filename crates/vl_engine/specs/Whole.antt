@@ -5,16 +5,17 @@ use Rattle.vl_compact.specs.declared.job.Job.{Job as Merging}
 use Rattle.vl_disk.specs.declared.watched.Watched.{Ghosts}
 use Rattle.vl_disk.specs.declared.writer.Writer.{Ghosts as Writers}
 use Rattle.vl_engine_laws.specs.Carries.{CrashesShow, Tells}
-use Rattle.vl_engine.specs.Collecting.{Collects}
-use Rattle.vl_engine.specs.Merging.{HasAllMerge, StandsOpen}
-use Rattle.vl_engine.specs.Removing.{Removes}
+use Rattle.vl_space.specs.Collecting.{Collects}
+use Rattle.vl_steps.specs.Merging.{HasAllMerge}
+use Rattle.vl_engine_laws.specs.Lent.{StandsOpen}
+use Rattle.vl_space.specs.Removing.{Removes}
 use Rattle.vl_engine_laws.specs.Represents.{Represents}
 use Rattle.vl_engine_laws.specs.MayStep.{Fits}
 use Rattle.vl_engine.specs.declared.fails.MergeFail.{MergeFail}
 use Rattle.vl_engine_laws.specs.declared.kept.Core.{Core}
-use Rattle.vl_engine.specs.declared.open.Collecting.{Collecting}
-use Rattle.vl_engine.specs.declared.open.OpenMerge.{OpenMerge}
-use Rattle.vl_engine.specs.declared.open.Removing.{Removing}
+use Rattle.vl_space.specs.declared.kept.Collecting.{Collecting}
+use Rattle.vl_engine_laws.specs.declared.open.OpenMerge.{OpenMerge}
+use Rattle.vl_space.specs.declared.kept.Removing.{Removing}
 use Rattle.vl_engine_model.specs.Jobs.{AreLent}
 use Rattle.vl_engine_model.specs.Merging.{merged_entries}
 use Rattle.vl_engine_model.specs.declared.job.Job.{Job}

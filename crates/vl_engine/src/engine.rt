@@ -3,8 +3,8 @@ ghost use Rattle.std.specs.Prelude.{◌≡◌, ◌≤◌, None, true};
 ghost use Rattle.std.specs.Option.{ForSome};
 ghost use Rattle.vl_engine_laws.specs.Fit.{IsFitFor};
 ghost use Rattle.vl_engine_laws.specs.Known.{are_known};
-ghost use Rattle.vl_engine.specs.Lent.{AreLent};
-ghost use Rattle.vl_engine.specs.Removing.{IsThere};
+ghost use Rattle.vl_engine_laws.specs.Lent.{AreLent};
+ghost use Rattle.vl_space.specs.Removing.{IsThere};
 
 mod beginning;
 mod collecting;
@@ -21,11 +21,11 @@ mod relocating;
 mod rotating;
 mod sweeping;
 
-use crate::open::{Collecting, OpenMerge, Removing};
 use std::alloc::Global;
 use vl_compact::Lent;
 use vl_disk::Disk;
-use vl_engine_laws::Core;
+use vl_engine_laws::{Core, OpenMerge};
+use vl_space::{Collecting, Removing};
 
 /// A store that is open.
 #[derive(Drop)]
@@ -49,13 +49,4 @@ pub struct Engine<D: Disk> {
     ghost known: { are_known core.front.oracle.last core.version.active.entries ≡ true },
     // While it isn't halted, the files in use stand, and each retired file can be removed.
     ghost there: { core.front.halted ≡ None → IsThere D.Watched D.Writer.Writer disk core merging removing.stock },
-}
-
-/// What became of a transaction that was committed.
-#[derive(Clone, Copy, Debug, PartialEq, Eq)]
-pub enum Done {
-    /// It is the commit with this number, and durable.
-    At(u64),
-    /// It wrote nothing. It has ended.
-    Nothing,
 }

@@ -7,37 +7,15 @@
 //! docs/API.md tells what each call answers, and what it costs.
 #![tactic(auto)]
 
-mod collecting;
 mod engine;
 mod fails;
-mod flushing;
-mod installing;
-mod laws;
-mod making;
-mod open;
-mod past;
-mod pinning;
-mod relocating;
-mod removing;
-mod rotating;
-mod staging;
-mod sweeping;
-mod txn;
-mod view;
-mod writing;
 
-pub use engine::{Done, Engine};
-pub use fails::{
-    AtFail, CommitFail, InstallFail, KeepFail, MergeFail, MoveFail, PickFail, ReadFail, ReadFault,
-    StepFail, SweepFail,
-};
-pub use laws::what_is_seen_stays;
-pub use txn::Txn;
-pub use view::View;
+pub use engine::Engine;
+pub use fails::MergeFail;
 pub use vl_oracle::BeginFail;
+pub use vl_reads::{
+    AtFail, Found, ReadFail, ReadFault, Rows, SetFail, Txn, View, what_is_seen_stays,
+};
 pub use vl_recover::{OpenError, OpenFail};
-pub use vl_txn::SetFail;
-pub use vl_version::Found;
-
-/// The rows of a scan: keys with their values.
-pub type Rows = std::vec::Vec<(vl_model::Key, vl_model::Value)>;
+pub use vl_space::{PickFail, SweepFail};
+pub use vl_steps::{CommitFail, Done, InstallFail, KeepFail, MoveFail, StepFail};

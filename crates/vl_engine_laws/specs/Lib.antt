@@ -10,7 +10,7 @@ pub mod Known
 pub mod Laid
 pub mod Lasts
 pub mod laws
-pub mod LiesOver
+pub mod Lent
 pub mod MayStep
 pub mod MoveFacts
 pub mod Passing

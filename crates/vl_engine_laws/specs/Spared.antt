@@ -1,22 +1,16 @@
 -- Which versions of a key the sources of a store still have, whatever merges dropped.
-use Rattle.std.specs.Prelude.{◌≡◌, ◌⊎◌, ◌≤◌, ℕ, ◌+◌, true, false, List, []}
-use Rattle.vl_engine_model.specs.laws.FromLow.{Passes}
+use Rattle.std.specs.Prelude.{◌≤◌, ℕ, List, []}
 use Rattle.vl_engine_model.specs.Ruling.{Ruling}
 use Rattle.vl_engine_model.specs.Sources.{floor, sources}
 use Rattle.vl_engine_model.specs.declared.layout.Layout.{Layout}
 use Rattle.vl_model.specs.History.{History, last_number}
-use Rattle.vl_model.specs.Numbers.{has, nth_below}
 use Rattle.vl_model.specs.Versions.{versions, versions_in}
 use Rattle.vl_model.specs.declared.entry.Entry.{Entry}
+use Rattle.vl_engine_model.specs.laws.LowStays.{AreSpared}
 
--- Of all these versions up to a number, one that isn't left is at most since, or is passed by so many that are left and are at
--- most the floor.
-abbrev pub AreSpared : (all left : List ℕ) → (to floor keep since : ℕ) → Type 0
-AreSpared all left to floor keep since = (n : ℕ) → n ≤ to → has n all ≡ true → has n left ≡ false
-    → (n ≤ since) ⊎ Passes n (nth_below left (floor + 1) keep)
-
--- So it is with what the entries have of each key's versions in the history, where more than one version is kept. The least
--- number at which a key can be read is then the same by these as by the history. Where one version is kept it is the floor,
+-- What the entries have of each key's versions in the history is spared, where more than one version is kept: a version that
+-- isn't left is at most since, or is passed by so many that are left and are at most the floor. The least number at which a key
+-- can be read is then the same by these as by the history. Where one version is kept it is the floor,
 -- whatever the entries have, and merges may drop a key's last version if that is a deletion.
 abbrev pub IsSpared : History → List Entry → (to floor keep since : ℕ) → Type 0
 IsSpared h es to floor keep since =

@@ -58,7 +58,6 @@ pub mod NeededLogs
 pub mod Opened
 pub mod OpensAgain
 pub mod PlanSources
-pub mod ReadLaws
 pub mod RelocateCarrying
 pub mod RelocateFits
 pub mod RelocateLaws
@@ -83,6 +82,7 @@ pub mod Standing
 pub mod StartLaws
 pub mod StillLaws
 pub mod SwitchLaws
+pub mod TableFiles
 pub mod TableReads
 pub mod Untouched
 pub mod VersionLaws

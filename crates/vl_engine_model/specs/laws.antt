@@ -5,6 +5,7 @@ pub mod LayoutShows
 pub mod LockHistoryLaws
 pub mod LowRulings
 pub mod LowShows
+pub mod LowStays
 pub mod MergeShows
 pub mod OrderShows
 pub mod OwnThings

@@ -13,7 +13,7 @@ use Rattle.vl_disk.specs.declared.name.Name.{Name}
 use Rattle.vl_disk.specs.declared.name.Name.TheVariants.{Table}
 use Rattle.vl_disk.specs.declared.watched.Watched.{Ghosts}
 use Rattle.vl_disk.specs.laws.NameMap.{get_removed, same_or_other}
-use Rattle.vl_engine.specs.Drawing.{WhileLent, WritesFresh}
+use Rattle.vl_steps.specs.Drawing.{WhileLent, WritesFresh}
 use Rattle.vl_engine_laws.specs.Represents.{IsHeld, Represents}
 use Rattle.vl_engine_laws.specs.Shown.{Shown}
 use Rattle.vl_engine_laws.specs.declared.kept.Core.{Core}

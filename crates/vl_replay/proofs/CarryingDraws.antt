@@ -17,16 +17,17 @@ use Rattle.vl_disk.specs.declared.name.Name.TheVariants.{Table}
 use Rattle.vl_disk.specs.declared.watched.Watched.{Ghosts}
 use Rattle.vl_disk.specs.laws.NameMap.{same_or_other}
 use Rattle.vl_engine_laws.specs.Carries.{Carries}
-use Rattle.vl_engine.specs.Drawing.{DrawsCore, FreshLeavesDisk, MayDraw, StopsDrawing, WritesFresh}
-use Rattle.vl_engine.specs.Merging.{StandsOpen, fresh_effects, fresh_outcome}
+use Rattle.vl_steps.specs.Drawing.{DrawsCore, FreshLeavesDisk, MayDraw, StopsDrawing, WritesFresh}
+use Rattle.vl_engine_laws.specs.Lent.{StandsOpen}
+use Rattle.vl_steps.specs.Merging.{fresh_effects, fresh_outcome}
 use Rattle.vl_engine_laws.specs.Represents.{Fronts, Represents, file_of}
 use Rattle.vl_engine_laws.specs.Shown.{Shown}
-use Rattle.vl_engine.specs.Stepping.{StepFailed}
+use Rattle.vl_steps.specs.Stepping.{StepFailed}
 use Rattle.vl_engine_laws.specs.MayStep.{Fits, HasNumbers, LeavesNumbers}
-use Rattle.vl_engine.specs.declared.fails.StepFail.{StepFail}
-use Rattle.vl_engine.specs.declared.fails.StepFail.TheVariants as fails
+use Rattle.vl_steps.specs.declared.fails.StepFail.{StepFail}
+use Rattle.vl_steps.specs.declared.fails.StepFail.TheVariants as fails
 use Rattle.vl_engine_laws.specs.declared.kept.Core.{Core}
-use Rattle.vl_engine.specs.declared.open.OpenMerge.{OpenMerge}
+use Rattle.vl_engine_laws.specs.declared.open.OpenMerge.{OpenMerge}
 use Rattle.vl_engine_model.specs.Decides.{Decides, as_before}
 use Rattle.vl_engine_model.specs.Ruling.{Ruling, has_no_number, leaving}
 use Rattle.vl_engine_model.specs.Rulings.Fresh as fresh

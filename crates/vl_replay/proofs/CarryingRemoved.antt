@@ -7,10 +7,10 @@ use Rattle.vl_compact.specs.declared.files.Lent.{Lent}
 use Rattle.vl_compact.specs.declared.job.Job.{Job as TheJob}
 use Rattle.vl_compact.specs.declared.job_reader.JobReader.{JobReader}
 use Rattle.vl_engine_laws.specs.declared.kept.Core.{Core}
-use Rattle.vl_engine.specs.Merging.{fresh_outcome}
-use Rattle.vl_engine.specs.declared.fails.StepFail.{StepFail}
-use Rattle.vl_engine.specs.declared.fails.StepFail.TheVariants as fails
-use Rattle.vl_engine.specs.declared.open.OpenMerge.{OpenMerge}
+use Rattle.vl_steps.specs.Merging.{fresh_outcome}
+use Rattle.vl_steps.specs.declared.fails.StepFail.{StepFail}
+use Rattle.vl_steps.specs.declared.fails.StepFail.TheVariants as fails
+use Rattle.vl_engine_laws.specs.declared.open.OpenMerge.{OpenMerge}
 use Rattle.vl_engine_model.specs.Decides.{Decides, Effects, Otherwise}
 use Rattle.vl_engine_model.specs.Ruling.{Ruling, has_no_number, leaving}
 use Rattle.vl_engine_model.specs.Rulings.Fresh as fresh

@@ -8,12 +8,12 @@ use Rattle.vl_collect.specs.declared.pass.Pass.{Pass as ThePass}
 use Rattle.vl_engine_laws.specs.MoveFacts.{AreThere}
 use Rattle.vl_engine_laws.specs.Lasts.{Lasts}
 use Rattle.vl_engine_laws.specs.declared.kept.Core.{Core}
-use Rattle.vl_engine.specs.Collecting.{Collects, FitsLooks, GoesOver, passed_in}
-use Rattle.vl_engine.specs.declared.fails.MoveFail.{MoveFail}
-use Rattle.vl_engine.specs.declared.fails.MoveFail.TheVariants as unmoved
-use Rattle.vl_engine.specs.declared.fails.PickFail.{PickFail}
-use Rattle.vl_engine.specs.declared.fails.PickFail.TheVariants as unpicked
-use Rattle.vl_engine.specs.declared.open.Collecting.{Collecting}
+use Rattle.vl_space.specs.Collecting.{Collects, FitsLooks, GoesOver, passed_in}
+use Rattle.vl_steps.specs.declared.fails.MoveFail.{MoveFail}
+use Rattle.vl_steps.specs.declared.fails.MoveFail.TheVariants as unmoved
+use Rattle.vl_space.specs.declared.fails.PickFail.{PickFail}
+use Rattle.vl_space.specs.declared.fails.PickFail.TheVariants as unpicked
+use Rattle.vl_space.specs.declared.kept.Collecting.{Collecting}
 use Rattle.vl_engine_model.specs.Relocation.{Candidate, Pass}
 use Rattle.vl_engine_model.specs.Store.Lines.{Name}
 use Rattle.vl_engine_model.specs.Store.Things as things

@@ -10,10 +10,10 @@ use Rattle.vl_engine_laws.specs.declared.kept.Core.{Core}
 use Rattle.vl_compact.specs.Progress.{made_of}
 use Rattle.vl_compact.specs.declared.job.Job.{Job as TheJob}
 use Rattle.vl_disk.specs.declared.writer.Writer.{Ghosts as Writers}
-use Rattle.vl_engine.specs.Lent.{Opens}
-use Rattle.vl_engine.specs.Merging.{HasAllMerge, HasMerge}
-use Rattle.vl_engine.specs.Removing.{Removes}
-use Rattle.vl_engine.specs.declared.open.OpenMerge.{OpenMerge}
+use Rattle.vl_engine_laws.specs.Lent.{Opens}
+use Rattle.vl_steps.specs.Merging.{HasAllMerge, HasMerge}
+use Rattle.vl_space.specs.Removing.{Removes}
+use Rattle.vl_engine_laws.specs.declared.open.OpenMerge.{OpenMerge}
 use Rattle.vl_engine_model.specs.Jobs.{AreLent, Made}
 use Rattle.vl_engine_model.specs.Store.Lines.{Name}
 use Rattle.vl_engine_model.specs.Store.Things as things

@@ -5,10 +5,10 @@ use Rattle.std.specs.List.{filter}
 use Rattle.std.specs.Option.{option_map}
 use Rattle.std.specs.Bool.{⊤}
 use Rattle.std.specs.Ordering.{eq_by_cmp}
-use Rattle.vl_engine_laws.specs.LiesOver.{IsInMemory}
+use Rattle.vl_version.specs.LiesOver.{IsInMemory}
 use Rattle.vl_engine_laws.specs.Represents.{IsLive}
-use Rattle.vl_engine.specs.declared.txn.Txn.{Txn}
-use Rattle.vl_engine.specs.Sees.{Sees, SeesAlone, asked, asked_view}
+use Rattle.vl_reads.specs.declared.txn.Txn.{Txn}
+use Rattle.vl_reads.specs.Sees.{Sees, SeesAlone, asked, asked_view}
 use Rattle.vl_engine_model.specs.Rulings.Commit.{Transaction as ATxn}
 use Rattle.vl_engine_model.specs.Rulings.Sweep.{is_held}
 use Rattle.vl_engine_model.specs.Sources.{tables}
@@ -31,17 +31,17 @@ use Rattle.vl_script.specs.declared.answer.Answer.{Answer}
 use Rattle.vl_script.specs.declared.answer.Answer.TheVariants as answers
 use Rattle.vl_engine_model.specs.Store.Lines as store_lines
 use Rattle.vl_engine_model.specs.Store.Reading.{answer_of, answer_with_tag}
-use Rattle.vl_engine.specs.Past.{beginning}
-use Rattle.vl_engine.specs.declared.fails.AtFail.{AtFail}
-use Rattle.vl_engine.specs.declared.fails.AtFail.TheVariants as gone
-use Rattle.vl_engine.specs.declared.fails.ReadFail.{ReadFail}
-use Rattle.vl_engine.specs.declared.fails.ReadFail.TheVariants as unread
-use Rattle.vl_engine.specs.declared.fails.KeepFail.{KeepFail}
-use Rattle.vl_engine.specs.declared.fails.KeepFail.TheVariants as unkept
-use Rattle.vl_engine.specs.declared.fails.SweepFail.{SweepFail}
-use Rattle.vl_engine.specs.declared.fails.SweepFail.TheVariants as unswept
-use Rattle.vl_engine.specs.declared.fails.StepFail.{StepFail}
-use Rattle.vl_engine.specs.declared.fails.StepFail.TheVariants as undone
+use Rattle.vl_reads.specs.Past.{beginning}
+use Rattle.vl_reads.specs.declared.fails.AtFail.{AtFail}
+use Rattle.vl_reads.specs.declared.fails.AtFail.TheVariants as gone
+use Rattle.vl_reads.specs.declared.fails.ReadFail.{ReadFail}
+use Rattle.vl_reads.specs.declared.fails.ReadFail.TheVariants as unread
+use Rattle.vl_steps.specs.declared.fails.KeepFail.{KeepFail}
+use Rattle.vl_steps.specs.declared.fails.KeepFail.TheVariants as unkept
+use Rattle.vl_space.specs.declared.fails.SweepFail.{SweepFail}
+use Rattle.vl_space.specs.declared.fails.SweepFail.TheVariants as unswept
+use Rattle.vl_steps.specs.declared.fails.StepFail.{StepFail}
+use Rattle.vl_steps.specs.declared.fails.StepFail.TheVariants as undone
 use Rattle.vl_model.specs.Keys.{Stored}
 use Rattle.vl_txn.specs.declared.set_fail.SetFail.{SetFail}
 use Rattle.vl_txn.specs.declared.set_fail.SetFail.TheVariants.{EmptyKey, KeyTooLong, NoMemory, TooBig, ValueTooLong}

@@ -2,9 +2,9 @@
 ghost use Rattle.std.specs.Prelude.{◌≡◌, ◌<◌, ◌+◌, ◌^◌, ℕ, None, Ok, OnOk, true, is_some};
 ghost use Rattle.vl_compact.specs.Progress.{IsNew};
 ghost use Rattle.vl_disk.specs.Faults.{HasCause};
-ghost use Rattle.vl_engine.specs.Drawing.{drawn_core};
-ghost use Rattle.vl_engine.specs.Merging.{IsJustOpen};
-ghost use Rattle.vl_engine.specs.Removing.{Removes};
+ghost use Rattle.vl_steps.specs.Drawing.{drawn_core};
+ghost use Rattle.vl_steps.specs.Merging.{IsJustOpen};
+ghost use Rattle.vl_space.specs.Removing.{Removes};
 ghost use Rattle.vl_engine.specs.UnderWay.{IsUnderWay as MayGiveUp};
 ghost use Rattle.vl_engine_model.specs.declared.job.Job as laid;
 ghost use Rattle.vl_replay.specs.Drawn.{IsPlanned, Merged, drawn_all};

@@ -2,9 +2,9 @@
 ghost use Rattle.std.specs.Prelude.{◌≡◌, ◌≤◌, ◌<◌, ◌+◌, ◌^◌, ℕ, length, IfOk};
 ghost use Rattle.std.specs.FinMap.{entries};
 ghost use Rattle.std.specs.Option.{ForSome};
-ghost use Rattle.vl_engine.specs.Reading.{OnlyReads};
+ghost use Rattle.vl_reads.specs.Reading.{OnlyReads};
 ghost use Rattle.vl_engine_laws.specs.Represents.{StandsFor};
-ghost use Rattle.vl_engine.specs.Sees.{SeesAlone};
+ghost use Rattle.vl_reads.specs.Sees.{SeesAlone};
 ghost use Rattle.vl_engine_model.specs.declared.layout.Layout.{Layout};
 ghost use Rattle.vl_model.specs.History.{History, contents_at, last_number};
 ghost use Rattle.vl_script_model.specs.Contents.{AreRead};

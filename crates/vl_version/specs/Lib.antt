@@ -4,10 +4,11 @@ pub mod Faults
 pub mod Flushing
 pub mod Gathered
 pub mod Gives
-pub mod Near
-pub mod Needed
 pub mod laws
 pub mod levels
+pub mod LiesOver
+pub mod Near
+pub mod Needed
 pub mod Newest
 pub mod Oldest
 pub mod Over

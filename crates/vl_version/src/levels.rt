@@ -26,6 +26,7 @@ mod sharing;
 pub use level::Level;
 use look::Look;
 use lookup::{look_in, look_in_level};
+pub use marking::is_input;
 use std::alloc::Global;
 use vl_disk::{HeldFile, ReadFault, Reader};
 use vl_table::{BlockReader, Found, Table};

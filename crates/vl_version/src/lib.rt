@@ -41,7 +41,7 @@ pub use base::Base;
 pub use behind::Behind;
 pub use flushing::FlushedVersion;
 pub use found::Found;
-pub use levels::{Level, Levels};
+pub use levels::{Level, Levels, is_input};
 pub use replacing::ReplacedVersion;
 pub use version::Version;
 pub use wanted::Wanted;

@@ -2,10 +2,10 @@
 use Rattle.std.proofs.Common.{◌≡◌, ℕ, List, [], ◌∷◌, ◌++◌, refl, sym, ap, ◌∙◌, subst, arith}
 use Rattle.std.proofs.lemmas.Bool.Decides.{nat_tests}
 use Rattle.std.specs.Prelude.{Bool, true, false, cond, ◌==◌, nat_lt, Option, None, Some, Result, Ok, Err, IfOk}
-use Rattle.vl_engine.specs.Answers.{begin_outcome, view_outcome}
-use Rattle.vl_engine.specs.Sees.{Sees, SeesAlone}
-use Rattle.vl_engine.specs.declared.txn.Txn.{Txn}
-use Rattle.vl_engine.specs.declared.view.View.{View}
+use Rattle.vl_steps.specs.Answers.{begin_outcome, view_outcome}
+use Rattle.vl_reads.specs.Sees.{Sees, SeesAlone}
+use Rattle.vl_reads.specs.declared.txn.Txn.{Txn}
+use Rattle.vl_reads.specs.declared.view.View.{View}
 use Rattle.vl_engine_model.specs.LockHistory.{OpenTicket, number_of, open_tickets, opened, tickets_after}
 use Rattle.vl_engine_model.specs.Rulings.Begin.{begun}
 use Rattle.vl_engine_model.specs.declared.layout.Layout.{Layout}

@@ -7,8 +7,8 @@ use Rattle.std.specs.List.{AllByRecursion}
 use Rattle.std.specs.Option.{option_map}
 use Rattle.vl_engine_laws.specs.Passing.{AreReadable}
 use Rattle.vl_engine_laws.specs.declared.kept.Core.{Core}
-use Rattle.vl_engine.specs.Collecting.{Collects, Tallies}
-use Rattle.vl_engine.specs.declared.open.Collecting.{Collecting}
+use Rattle.vl_space.specs.Collecting.{Collects, Tallies}
+use Rattle.vl_space.specs.declared.kept.Collecting.{Collecting}
 use Rattle.vl_engine_model.specs.Decides.{Decides, Effects, Outcome, as_before}
 use Rattle.vl_engine_model.specs.Ruling.{Ruling, halted_at, has_no_number, has_no_version, leaving}
 use Rattle.vl_engine_model.specs.Rulings.Begin.{begin_ruling}

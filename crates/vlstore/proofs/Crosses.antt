@@ -15,11 +15,11 @@ use Rattle.vl_conflict.specs.contracts.recent.Recent as Recent
 use Rattle.vl_engine_laws.specs.contracts.kept.Core as Core
 use Rattle.vl_disk.proofs.name.Name.TheSendSync as name
 use Rattle.vl_compact.proofs.files.Lent.TheSendSync as lent
-use Rattle.vl_engine.proofs.open.Collecting.TheSendSync as collecting
-use Rattle.vl_engine.proofs.open.OpenMerge.TheSendSync as merge
-use Rattle.vl_engine.proofs.open.Removing.TheSendSync as removing
+use Rattle.vl_space.proofs.kept.Collecting.TheSendSync as collecting
+use Rattle.vl_engine_laws.proofs.open.OpenMerge.TheSendSync as merge
+use Rattle.vl_space.proofs.kept.Removing.TheSendSync as removing
 use Rattle.std.specs.contracts.option.Option as Option
-use Rattle.vl_engine.specs.contracts.open.OpenMerge as OpenMerge
+use Rattle.vl_engine_laws.specs.contracts.open.OpenMerge as OpenMerge
 use Rattle.vl_engine.specs.contracts.engine.Engine as Engine
 use Rattle.vlstore.specs.contracts.note.Note as Note
 use Rattle.vlstore.specs.contracts.session.Session as Session

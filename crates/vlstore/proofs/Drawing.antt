@@ -6,11 +6,11 @@ use Rattle.std.specs.List.{AllByRecursion}
 use Rattle.std.specs.Option.{option_map}
 use Rattle.vl_compact.specs.declared.files.Lent.{Lent}
 use Rattle.vl_engine_laws.specs.Represents.{file_of}
-use Rattle.vl_engine.specs.Drawing.{IsLentMore, IsSameMerge}
-use Rattle.vl_engine.specs.Merging.{fresh_outcome}
-use Rattle.vl_engine.specs.declared.fails.StepFail.{StepFail}
-use Rattle.vl_engine.specs.declared.fails.StepFail.TheVariants as fails
-use Rattle.vl_engine.specs.declared.open.OpenMerge.{OpenMerge}
+use Rattle.vl_steps.specs.Drawing.{IsLentMore, IsSameMerge}
+use Rattle.vl_steps.specs.Merging.{fresh_outcome}
+use Rattle.vl_steps.specs.declared.fails.StepFail.{StepFail}
+use Rattle.vl_steps.specs.declared.fails.StepFail.TheVariants as fails
+use Rattle.vl_engine_laws.specs.declared.open.OpenMerge.{OpenMerge}
 use Rattle.vl_engine_model.specs.Decides.{Answered, Damaged, Failed, NoMemory, Outcome}
 use Rattle.vl_engine_model.specs.LockHistory.{IsOwn, last_layout, open_job}
 use Rattle.vl_engine_model.specs.Ruling.{halted_at}

@@ -3,29 +3,29 @@ use Rattle.std.proofs.Common.{◌≡◌, ℕ, subst, arith}
 use Rattle.std.specs.Prelude.{Option, None, Some, Result, Ok, Err, ◌≤◌}
 use Rattle.vl_compact.specs.declared.files.Lent.{Lent}
 use Rattle.vl_disk.specs.Faults.{HasCause, Rose}
-use Rattle.vl_engine.specs.Answers.{CommitFailed, begin_outcome, commit_outcome, view_outcome}
-use Rattle.vl_engine.specs.Collecting.{pick_outcome}
-use Rattle.vl_engine.specs.Installing.{InstallFailed}
-use Rattle.vl_engine.specs.Merging.{fresh_outcome, install_outcome, plan_outcome}
-use Rattle.vl_engine.specs.Relocating.{MoveCounts, move_outcome}
-use Rattle.vl_engine.specs.Stepping.{StepFailed, step_outcome}
-use Rattle.vl_engine.specs.Sweeping.{SweepFailed, sweep_outcome}
-use Rattle.vl_engine.specs.declared.engine.Done.{Done}
-use Rattle.vl_engine.specs.declared.engine.Done.TheVariants as done
-use Rattle.vl_engine.specs.declared.fails.CommitFail.{CommitFail}
-use Rattle.vl_engine.specs.declared.fails.CommitFail.TheVariants as commit
-use Rattle.vl_engine.specs.declared.fails.InstallFail.{InstallFail}
-use Rattle.vl_engine.specs.declared.fails.InstallFail.TheVariants as install
-use Rattle.vl_engine.specs.declared.fails.MoveFail.{MoveFail}
-use Rattle.vl_engine.specs.declared.fails.MoveFail.TheVariants as move
-use Rattle.vl_engine.specs.declared.fails.PickFail.{PickFail}
-use Rattle.vl_engine.specs.declared.fails.PickFail.TheVariants as pick
-use Rattle.vl_engine.specs.declared.fails.StepFail.{StepFail}
-use Rattle.vl_engine.specs.declared.fails.StepFail.TheVariants as step
-use Rattle.vl_engine.specs.declared.fails.SweepFail.{SweepFail}
-use Rattle.vl_engine.specs.declared.fails.SweepFail.TheVariants as sweep
-use Rattle.vl_engine.specs.declared.txn.Txn.{Txn}
-use Rattle.vl_engine.specs.declared.view.View.{View}
+use Rattle.vl_steps.specs.Answers.{CommitFailed, begin_outcome, commit_outcome, view_outcome}
+use Rattle.vl_space.specs.Collecting.{pick_outcome}
+use Rattle.vl_steps.specs.Installing.{InstallFailed}
+use Rattle.vl_steps.specs.Merging.{fresh_outcome, install_outcome, plan_outcome}
+use Rattle.vl_steps.specs.Relocating.{MoveCounts, move_outcome}
+use Rattle.vl_steps.specs.Stepping.{StepFailed, step_outcome}
+use Rattle.vl_space.specs.Sweeping.{SweepFailed, sweep_outcome}
+use Rattle.vl_steps.specs.declared.done.Done.{Done}
+use Rattle.vl_steps.specs.declared.done.Done.TheVariants as done
+use Rattle.vl_steps.specs.declared.fails.CommitFail.{CommitFail}
+use Rattle.vl_steps.specs.declared.fails.CommitFail.TheVariants as commit
+use Rattle.vl_steps.specs.declared.fails.InstallFail.{InstallFail}
+use Rattle.vl_steps.specs.declared.fails.InstallFail.TheVariants as install
+use Rattle.vl_steps.specs.declared.fails.MoveFail.{MoveFail}
+use Rattle.vl_steps.specs.declared.fails.MoveFail.TheVariants as move
+use Rattle.vl_space.specs.declared.fails.PickFail.{PickFail}
+use Rattle.vl_space.specs.declared.fails.PickFail.TheVariants as pick
+use Rattle.vl_steps.specs.declared.fails.StepFail.{StepFail}
+use Rattle.vl_steps.specs.declared.fails.StepFail.TheVariants as step
+use Rattle.vl_space.specs.declared.fails.SweepFail.{SweepFail}
+use Rattle.vl_space.specs.declared.fails.SweepFail.TheVariants as sweep
+use Rattle.vl_reads.specs.declared.txn.Txn.{Txn}
+use Rattle.vl_reads.specs.declared.view.View.{View}
 use Rattle.vl_engine_model.specs.Decides.{Answered, Damaged, Failed, NoMemory, Outcome}
 use Rattle.vl_engine_model.specs.Rulings.Pick.{PickAnswer}
 use Rattle.vl_engine_model.specs.declared.file_name.FileName.{FileName}

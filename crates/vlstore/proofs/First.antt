@@ -5,10 +5,10 @@ use Rattle.std.specs.Prelude.{Bool, true, Option, None, Some, is_some}
 use Rattle.std.specs.Option.{option_map}
 use Rattle.vl_engine_laws.specs.MayStep.{Fits}
 use Rattle.vl_engine_laws.specs.Represents.{Represents}
-use Rattle.vl_engine.specs.Collecting.{Collects}
-use Rattle.vl_engine.specs.Lent.{Opens}
-use Rattle.vl_engine.specs.Removing.{Removes}
-use Rattle.vl_engine.specs.declared.open.OpenMerge.{OpenMerge}
+use Rattle.vl_space.specs.Collecting.{Collects}
+use Rattle.vl_engine_laws.specs.Lent.{Opens}
+use Rattle.vl_space.specs.Removing.{Removes}
+use Rattle.vl_engine_laws.specs.declared.open.OpenMerge.{OpenMerge}
 use Rattle.vl_engine_model.specs.LockHistory.{HasOpen, nothing_open}
 use Rattle.vl_engine_model.specs.declared.job.OpenJob.{OpenJob}
 use Rattle.vl_engine_model.specs.declared.layout.Layout.{Layout}

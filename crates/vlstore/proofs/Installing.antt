@@ -5,11 +5,11 @@ use Rattle.std.specs.Option.{ForSome}
 use Rattle.vl_compact.specs.declared.job.Job as given
 use Rattle.vl_engine_laws.specs.Represents.{file_of}
 use Rattle.vl_disk.specs.declared.writer.Writer.{Ghosts as Writers}
-use Rattle.vl_engine.specs.Installing.{HandsBack}
-use Rattle.vl_engine.specs.Merging.{install_outcome}
-use Rattle.vl_engine.specs.declared.fails.InstallFail.{InstallFail}
-use Rattle.vl_engine.specs.declared.fails.InstallFail.TheVariants as fails
-use Rattle.vl_engine.specs.declared.open.OpenMerge.{OpenMerge}
+use Rattle.vl_steps.specs.Installing.{HandsBack}
+use Rattle.vl_steps.specs.Merging.{install_outcome}
+use Rattle.vl_steps.specs.declared.fails.InstallFail.{InstallFail}
+use Rattle.vl_steps.specs.declared.fails.InstallFail.TheVariants as fails
+use Rattle.vl_engine_laws.specs.declared.open.OpenMerge.{OpenMerge}
 use Rattle.vl_engine_model.specs.Jobs.{Made, job_ended}
 use Rattle.vl_engine_model.specs.LockHistory.{IsOwn, last_layout, open_job}
 use Rattle.vl_engine_model.specs.Ruling.{Ruling, halted_at, has_no_version}

@@ -3,7 +3,7 @@ use Rattle.std.proofs.Common.{◌≡◌, ℕ, List, [], ◌∷◌, ◌++◌, ref
 use Rattle.std.proofs.lemmas.Bool.{false≢true}
 use Rattle.std.specs.Option.{option_map}
 use Rattle.std.specs.Prelude.{true, false, Option, None, Some, is_some}
-use Rattle.vl_engine.specs.declared.open.OpenMerge.{OpenMerge}
+use Rattle.vl_engine_laws.specs.declared.open.OpenMerge.{OpenMerge}
 use Rattle.vl_engine_model.specs.LockHistory.{IsOwn, job_after, job_in, last_layout, open_job}
 use Rattle.vl_engine_model.specs.declared.job.Job.{Job}
 use Rattle.vl_engine_model.specs.declared.job.OpenJob.{OpenJob}

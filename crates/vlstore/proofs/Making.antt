@@ -11,10 +11,10 @@ use Rattle.vl_compact.specs.declared.files.Lent.{Lent}
 use Rattle.vl_compact.specs.declared.files.Synced.{Synced}
 use Rattle.vl_compact.specs.declared.job.Job.{Job}
 use Rattle.vl_disk.specs.declared.writer.Writer.{Ghosts as Writers}
-use Rattle.vl_engine.specs.Installing.{numbers_in}
-use Rattle.vl_engine.specs.Merging.{HasAllMerge, HasMerge}
-use Rattle.vl_engine.specs.declared.fails.InstallFail.{InstallFail}
-use Rattle.vl_engine.specs.declared.fails.InstallFail.TheVariants as fails
+use Rattle.vl_steps.specs.Installing.{numbers_in}
+use Rattle.vl_steps.specs.Merging.{HasAllMerge, HasMerge}
+use Rattle.vl_steps.specs.declared.fails.InstallFail.{InstallFail}
+use Rattle.vl_steps.specs.declared.fails.InstallFail.TheVariants as fails
 use Rattle.vl_engine_model.specs.Jobs.{AreDistinct}
 use Rattle.vl_engine_model.specs.LockHistory.{last_layout, open_job}
 use Rattle.vl_engine_model.specs.Merging.{needless}

@@ -3,10 +3,10 @@ use Rattle.std.proofs.Common.{◌≡◌, ℕ, List, [], ◌∷◌, ◌++◌, ref
 use Rattle.std.specs.Prelude.{Option, None, Some, Err, length, min, ◌^◌, ◌-◌}
 use Rattle.std.specs.List.{AllByRecursion}
 use Rattle.vl_compact.specs.Laid.{AreBoth}
-use Rattle.vl_engine.specs.Merging.{install_outcome}
+use Rattle.vl_steps.specs.Merging.{install_outcome}
 use Rattle.vl_engine.specs.Whole.{kept_of}
-use Rattle.vl_engine.specs.declared.fails.InstallFail.{InstallFail}
-use Rattle.vl_engine.specs.declared.fails.InstallFail.TheVariants as fails
+use Rattle.vl_steps.specs.declared.fails.InstallFail.{InstallFail}
+use Rattle.vl_steps.specs.declared.fails.InstallFail.TheVariants as fails
 use Rattle.vl_engine_model.specs.Decides.{Answered, Damaged, Failed, NoMemory, Outcome}
 use Rattle.vl_engine_model.specs.Jobs.{Made}
 use Rattle.vl_engine_model.specs.LockHistory.{job_after, open_job}

@@ -4,9 +4,9 @@ use Rattle.std.specs.Global.{Global}
 use Rattle.std.specs.Prelude.{Bool, true, false, ◌+◌, Vec, nat_le, if◌then◌else◌, Option, None, Some, Result, Ok, Err, is_some}
 use Rattle.std.specs.Option.{option_map}
 use Rattle.vl_engine_laws.specs.Lasts.{Lasts}
-use Rattle.vl_engine.specs.Relocating.{MoveNotes, NotesMoves}
-use Rattle.vl_engine.specs.declared.fails.MoveFail.{MoveFail}
-use Rattle.vl_engine.specs.declared.open.OpenMerge.{OpenMerge}
+use Rattle.vl_steps.specs.Relocating.{MoveNotes, NotesMoves}
+use Rattle.vl_steps.specs.declared.fails.MoveFail.{MoveFail}
+use Rattle.vl_engine_laws.specs.declared.open.OpenMerge.{OpenMerge}
 use Rattle.vl_engine_model.specs.Decides.{Answered, Damaged, Decides, Failed, NoMemory, Outcome, as_before, no_effects}
 use Rattle.vl_engine_model.specs.LockHistory.{last_layout}
 use Rattle.vl_engine_model.specs.Relocation.{Candidate, Pass, moved_of}

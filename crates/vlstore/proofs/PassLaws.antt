@@ -15,7 +15,7 @@ use Rattle.vl_collect.specs.laws.StandingLaws.{given}
 use Rattle.vl_engine_laws.specs.MoveFacts.{AreThere}
 use Rattle.vl_disk.specs.Faults.{HasCause, Rose}
 use Rattle.vl_disk.specs.declared.name.Name.{Name as FileName}
-use Rattle.vl_engine.specs.Collecting.{GoesOver}
+use Rattle.vl_space.specs.Collecting.{GoesOver}
 use Rattle.vl_engine_model.specs.Relocation.{Candidate, Pass, next_batch}
 use Rattle.vl_engine_model.specs.Shown.{IsThere}
 use Rattle.vl_engine_model.specs.Shows.{AreUpTo}

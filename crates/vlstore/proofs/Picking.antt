@@ -3,11 +3,11 @@ use Rattle.std.proofs.Common.{◌≡◌, ℕ, List, [], ◌∷◌, ◌++◌, ref
 use Rattle.std.specs.Prelude.{Bool, true, false, is_ok, is_some, Option, None, Some, Result, Ok, Err, IfOk}
 use Rattle.std.specs.Option.{option_map}
 use Rattle.vl_collect.specs.declared.pass.Pass.{Pass}
-use Rattle.vl_engine.specs.Collecting.{Collects, IsPicked, Passes, pick_outcome}
+use Rattle.vl_space.specs.Collecting.{Collects, IsPicked, Passes, pick_outcome}
 use Rattle.vl_engine_laws.specs.declared.kept.Core.{Core}
-use Rattle.vl_engine.specs.declared.fails.PickFail.{PickFail}
-use Rattle.vl_engine.specs.declared.fails.PickFail.TheVariants as fails
-use Rattle.vl_engine.specs.declared.open.Collecting.{Collecting}
+use Rattle.vl_space.specs.declared.fails.PickFail.{PickFail}
+use Rattle.vl_space.specs.declared.fails.PickFail.TheVariants as fails
+use Rattle.vl_space.specs.declared.kept.Collecting.{Collecting}
 use Rattle.vl_engine_model.specs.Decides.{Decides, as_before, no_effects}
 use Rattle.vl_engine_model.specs.LockHistory.{open_pass, pass_after, segment_in}
 use Rattle.vl_engine_model.specs.Relocation as layout

@@ -10,9 +10,9 @@ use Rattle.vl_compact.specs.declared.files.Lent.{Lent}
 use Rattle.vl_compact.specs.declared.files.Synced.{Synced}
 use Rattle.vl_compact.specs.declared.job.Job as made
 use Rattle.vl_disk.specs.declared.writer.Writer.{Ghosts as Writers}
-use Rattle.vl_engine.specs.Installing.{numbers_in}
-use Rattle.vl_engine.specs.Merging.{HasMerge, OpensMerge, plan_outcome}
-use Rattle.vl_engine.specs.declared.open.OpenMerge.{OpenMerge}
+use Rattle.vl_steps.specs.Installing.{numbers_in}
+use Rattle.vl_steps.specs.Merging.{HasMerge, OpensMerge, plan_outcome}
+use Rattle.vl_engine_laws.specs.declared.open.OpenMerge.{OpenMerge}
 use Rattle.vl_engine_model.specs.Jobs.{AreDistinct}
 use Rattle.vl_engine_model.specs.LockHistory.{last_layout, open_job}
 use Rattle.vl_engine_model.specs.Rulings.Plan.{with_job}

@@ -3,9 +3,9 @@ use Rattle.std.proofs.Common.{◌≡◌, ℕ, ◌==◌, cond, List, [], ◌∷�
 use Rattle.std.specs.FinMap.{get, insert}
 use Rattle.std.specs.Prelude.{IfOk, IsOk, None, OnOk, Option, Result, Ok, Err, Some, is_some, nat_le, ⊤}
 use Rattle.vl_disk.specs.Faults.{HasCause}
-use Rattle.vl_engine.specs.Reading.{IsRefusedBy, IsSound, ReadFailed}
-use Rattle.vl_engine.specs.declared.fails.ReadFail.{ReadFail}
-use Rattle.vl_engine.specs.declared.fails.ReadFail.TheVariants as why
+use Rattle.vl_reads.specs.Reading.{IsRefusedBy, IsSound, ReadFailed}
+use Rattle.vl_reads.specs.declared.fails.ReadFail.{ReadFail}
+use Rattle.vl_reads.specs.declared.fails.ReadFail.TheVariants as why
 use Rattle.vl_model.specs.History.{value_left}
 use Rattle.vl_model.specs.Keys.{Stored, Writes}
 use Rattle.vl_model.specs.Limits.{max_key_bytes}

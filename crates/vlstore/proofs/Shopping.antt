@@ -9,21 +9,21 @@ use Rattle.vl_engine_laws.specs.Represents.{file_of}
 use Rattle.vl_drive.specs.Entries as drive_entries
 use Rattle.vl_drive.specs.Knowing as drive
 use Rattle.vl_drive.specs.Steps.{is_aside}
-use Rattle.vl_engine.specs.Answers.{commit_outcome}
-use Rattle.vl_engine.specs.Relocating.{IsDamaged, move_outcome}
-use Rattle.vl_engine.specs.Sees.{IsNew}
-use Rattle.vl_engine.specs.Stepping.{step_outcome}
-use Rattle.vl_engine.specs.Sweeping.{sweep_outcome}
-use Rattle.vl_engine.specs.declared.engine.Done.{Done as EngineDone}
-use Rattle.vl_engine.specs.declared.fails.CommitFail.{CommitFail}
-use Rattle.vl_engine.specs.declared.fails.CommitFail.TheVariants as fails
-use Rattle.vl_engine.specs.declared.fails.MoveFail.{MoveFail}
-use Rattle.vl_engine.specs.declared.fails.MoveFail.TheVariants as move_fails
-use Rattle.vl_engine.specs.declared.fails.StepFail.{StepFail}
-use Rattle.vl_engine.specs.declared.fails.StepFail.TheVariants as step_fails
-use Rattle.vl_engine.specs.declared.fails.SweepFail.{SweepFail}
-use Rattle.vl_engine.specs.declared.fails.SweepFail.TheVariants as sweep_fails
-use Rattle.vl_engine.specs.declared.txn.Txn.{Txn}
+use Rattle.vl_steps.specs.Answers.{commit_outcome}
+use Rattle.vl_steps.specs.Relocating.{IsDamaged, move_outcome}
+use Rattle.vl_reads.specs.Sees.{IsNew}
+use Rattle.vl_steps.specs.Stepping.{step_outcome}
+use Rattle.vl_space.specs.Sweeping.{sweep_outcome}
+use Rattle.vl_steps.specs.declared.done.Done.{Done as EngineDone}
+use Rattle.vl_steps.specs.declared.fails.CommitFail.{CommitFail}
+use Rattle.vl_steps.specs.declared.fails.CommitFail.TheVariants as fails
+use Rattle.vl_steps.specs.declared.fails.MoveFail.{MoveFail}
+use Rattle.vl_steps.specs.declared.fails.MoveFail.TheVariants as move_fails
+use Rattle.vl_steps.specs.declared.fails.StepFail.{StepFail}
+use Rattle.vl_steps.specs.declared.fails.StepFail.TheVariants as step_fails
+use Rattle.vl_space.specs.declared.fails.SweepFail.{SweepFail}
+use Rattle.vl_space.specs.declared.fails.SweepFail.TheVariants as sweep_fails
+use Rattle.vl_reads.specs.declared.txn.Txn.{Txn}
 use Rattle.vl_engine_model.specs.Decides.{Answered, Damaged, Failed, NoMemory, Outcome}
 use Rattle.vl_engine_model.specs.LockHistory.{IsLegal, entries_by, open_pass, pass_after}
 use Rattle.vl_engine_model.specs.Ruling.{Ruling, StepAnswer, has_no_number, has_no_version, leaving}
@@ -31,7 +31,8 @@ use Rattle.vl_engine_model.specs.Ruling as ruling
 use Rattle.vl_engine_model.specs.Rulings.Begin as begin
 use Rattle.vl_engine_model.specs.Rulings.Begin.{BeginAnswer, begin_ruling}
 use Rattle.vl_engine_model.specs.Rulings.Commit as commit
-use Rattle.vl_engine_model.specs.Rulings.Commit.{CommitAnswer, Transaction, commit_checked, commit_ended, commit_frame, commit_ruling, commit_unless, committed}
+use Rattle.vl_engine_model.specs.Rulings.Commit.{CommitAnswer, Transaction, commit_checked, commit_ended, commit_frame, commit_ruling}
+use Rattle.vl_engine_model.specs.Rulings.Commit.{commit_unless, committed}
 use Rattle.vl_engine_model.specs.Relocation.{Candidate, Pass, moved_of}
 use Rattle.vl_engine_model.specs.Rulings.EndPass.{end_pass_ruling, without_pass}
 use Rattle.vl_engine_model.specs.Rulings.Flush.{flush_of, flush_ruling, flush_unless, flushed}
@@ -62,7 +63,8 @@ use Rattle.vl_model.specs.declared.log_frame.LogFrame.TheVariants.{Relocated}
 use Rattle.vl_model.specs.declared.log_frame.Moved.{Moved}
 use Rattle.vl_oracle.specs.declared.begin_fail.BeginFail.{BeginFail}
 use Rattle.vl_turn.specs.Entries.{with_entry}
-use Rattle.vlstore.specs.Entries.{Done, begin_entry, commit_entry, done_by, end_pass_entry, entry_of, flush_entry, pick_done, pick_entry, relocate_entry, rotate_entry, step_done, sweep_done, sweep_entry}
+use Rattle.vlstore.specs.Entries.{Done, begin_entry, commit_entry, done_by, end_pass_entry, entry_of, flush_entry, pick_done}
+use Rattle.vlstore.specs.Entries.{pick_entry, relocate_entry, rotate_entry, step_done, sweep_done, sweep_entry}
 use Rattle.vlstore.specs.Knowing.{GoesOn, IsOwnPass, Knows, Looked, Meets, Noted, Stepped}
 use Rattle.vlstore.specs.Lists.{history_by, layout_by}
 use Rattle.vlstore.specs.Merging.{Did, IsChange, IsWork}

@@ -14,7 +14,7 @@ use Rattle.vl_engine_model.specs.declared.job.OpenJob.{OpenJob}
 use Rattle.vl_engine_model.specs.declared.layout.Layout.{Layout}
 use Rattle.vl_engine_model.specs.declared.lock_history.LockEntry.{LockEntry}
 use Rattle.vl_engine_model.specs.declared.lock_history.LockStep.TheVariants.{Changed}
-use Rattle.vl_engine.specs.Sweeping.{sweep_otherwise}
+use Rattle.vl_space.specs.Sweeping.{sweep_otherwise}
 use Rattle.vl_model.specs.History.{History}
 use Rattle.vlstore.specs.Entries.{done_by, entry_by, sweep_done, sweep_entry}
 use Rattle.vlstore.specs.Lists.{history_by, layout_by}

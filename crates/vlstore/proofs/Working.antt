@@ -14,12 +14,12 @@ use Rattle.vl_disk.specs.DiskState.{new_file}
 use Rattle.vl_disk.specs.declared.name.Name.{Name}
 use Rattle.vl_disk.specs.declared.watched.Watched.{Ghosts}
 use Rattle.vl_disk.specs.declared.writer.Writer.{Ghosts as Writers}
-use Rattle.vl_engine.specs.Drawing.{IsNewTo, IsSameJob}
-use Rattle.vl_engine.specs.Installing.{IsHandedIn, numbers_in}
-use Rattle.vl_engine.specs.Merging.{HasMerge, fresh_outcome}
+use Rattle.vl_steps.specs.Drawing.{IsNewTo, IsSameJob}
+use Rattle.vl_steps.specs.Installing.{IsHandedIn, numbers_in}
+use Rattle.vl_steps.specs.Merging.{HasMerge, fresh_outcome}
 use Rattle.vl_engine.specs.UnderWay.{IsUnderWay}
-use Rattle.vl_engine.specs.declared.fails.StepFail.{StepFail}
-use Rattle.vl_engine.specs.declared.open.OpenMerge.{OpenMerge}
+use Rattle.vl_steps.specs.declared.fails.StepFail.{StepFail}
+use Rattle.vl_engine_laws.specs.declared.open.OpenMerge.{OpenMerge}
 use Rattle.vl_engine_model.specs.Decides.{Answered}
 use Rattle.vl_engine_model.specs.Jobs.{AreDistinct, AreLent, tables_made}
 use Rattle.vl_engine_model.specs.LockHistory.{HasOpen, IsLegal, last_layout, nothing_open, open_job}

@@ -29,7 +29,7 @@ use Rattle.vl_engine_model.specs.declared.lock_history.LockEntry.{LockEntry}
 use Rattle.vl_engine_model.specs.declared.lock_history.LockStep.TheVariants.{Changed, JobEnded, PassEnded, Picked, Planned}
 use Rattle.vl_engine_model.specs.declared.segment.SegmentStat.{SegmentStat}
 use Rattle.vl_engine_model.specs.declared.table.Table.{Table}
-use Rattle.vl_engine.specs.Installing.{install_otherwise}
+use Rattle.vl_steps.specs.Installing.{install_otherwise}
 use Rattle.vl_model.specs.Conflicts.{Named}
 use Rattle.vl_model.specs.Frames.{frame_length}
 use Rattle.vl_model.specs.History.{History, last_number}

@@ -6,11 +6,11 @@ use Rattle.vl_compact.specs.declared.files.Synced.{Synced}
 use Rattle.vl_compact.specs.declared.job.Job.{Job}
 use Rattle.vl_engine_laws.specs.Lasts.{Lasts}
 use Rattle.vl_disk.specs.declared.writer.Writer.{Ghosts as Writers}
-use Rattle.vl_engine.specs.Installing.{numbers_in}
-use Rattle.vl_engine.specs.Merging.{HasAllMerge, HasMerge}
-use Rattle.vl_engine.specs.declared.fails.InstallFail.{InstallFail}
-use Rattle.vl_engine.specs.declared.fails.InstallFail.TheVariants as fails
-use Rattle.vl_engine.specs.declared.txn.Txn.{Txn}
+use Rattle.vl_steps.specs.Installing.{numbers_in}
+use Rattle.vl_steps.specs.Merging.{HasAllMerge, HasMerge}
+use Rattle.vl_steps.specs.declared.fails.InstallFail.{InstallFail}
+use Rattle.vl_steps.specs.declared.fails.InstallFail.TheVariants as fails
+use Rattle.vl_reads.specs.declared.txn.Txn.{Txn}
 use Rattle.vl_engine_model.specs.Jobs.{AreDistinct}
 use Rattle.vl_engine_model.specs.declared.job.Job as laid_job
 use Rattle.vl_engine_model.specs.declared.lock_history.LockEntry.{LockEntry}

@@ -4,17 +4,17 @@ use Rattle.std.specs.Prelude.{◌≡◌, ℕ, true, List, [], None, Option, Resu
 use Rattle.vl_drive.specs.Knowing as drive
 use Rattle.vl_drive.specs.Steps as steps
 use Rattle.vl_drive.specs.Stores.{Opened}
-use Rattle.vl_engine.specs.declared.engine.Done.{Done}
-use Rattle.vl_engine.specs.declared.fails.CommitFail.{CommitFail}
-use Rattle.vl_engine.specs.declared.fails.CommitFail.TheVariants as commit
-use Rattle.vl_engine.specs.declared.fails.MoveFail.{MoveFail}
-use Rattle.vl_engine.specs.declared.fails.MoveFail.TheVariants as move
-use Rattle.vl_engine.specs.declared.fails.ReadFail.{ReadFail}
-use Rattle.vl_engine.specs.declared.fails.ReadFail.TheVariants as read
-use Rattle.vl_engine.specs.declared.fails.StepFail.{StepFail}
-use Rattle.vl_engine.specs.declared.fails.StepFail.TheVariants as step
-use Rattle.vl_engine.specs.declared.fails.SweepFail.{SweepFail}
-use Rattle.vl_engine.specs.declared.fails.SweepFail.TheVariants as sweep
+use Rattle.vl_steps.specs.declared.done.Done.{Done}
+use Rattle.vl_steps.specs.declared.fails.CommitFail.{CommitFail}
+use Rattle.vl_steps.specs.declared.fails.CommitFail.TheVariants as commit
+use Rattle.vl_steps.specs.declared.fails.MoveFail.{MoveFail}
+use Rattle.vl_steps.specs.declared.fails.MoveFail.TheVariants as move
+use Rattle.vl_reads.specs.declared.fails.ReadFail.{ReadFail}
+use Rattle.vl_reads.specs.declared.fails.ReadFail.TheVariants as read
+use Rattle.vl_steps.specs.declared.fails.StepFail.{StepFail}
+use Rattle.vl_steps.specs.declared.fails.StepFail.TheVariants as step
+use Rattle.vl_space.specs.declared.fails.SweepFail.{SweepFail}
+use Rattle.vl_space.specs.declared.fails.SweepFail.TheVariants as sweep
 use Rattle.vl_engine_model.specs.Start.{fresh_layout}
 use Rattle.vl_model.specs.Limits.{max_room}
 use Rattle.vl_txn.specs.declared.set_fail.SetFail.{SetFail}

@@ -5,12 +5,12 @@ use Rattle.vl_engine_laws.specs.MayStep.{Fits}
 use Rattle.vl_engine_laws.specs.Represents.{Represents}
 use Rattle.vl_engine_laws.specs.declared.kept.Core.{Core}
 use Rattle.vl_disk.specs.DiskState.{DiskState}
-use Rattle.vl_engine.specs.Collecting.{Collects}
-use Rattle.vl_engine.specs.Lent.{Opens}
-use Rattle.vl_engine.specs.declared.open.Collecting.{Collecting}
-use Rattle.vl_engine.specs.Removing.{Removes}
-use Rattle.vl_engine.specs.declared.open.OpenMerge.{OpenMerge}
-use Rattle.vl_engine.specs.declared.open.Removing.{Removing}
+use Rattle.vl_space.specs.Collecting.{Collects}
+use Rattle.vl_engine_laws.specs.Lent.{Opens}
+use Rattle.vl_space.specs.declared.kept.Collecting.{Collecting}
+use Rattle.vl_space.specs.Removing.{Removes}
+use Rattle.vl_engine_laws.specs.declared.open.OpenMerge.{OpenMerge}
+use Rattle.vl_space.specs.declared.kept.Removing.{Removing}
 use Rattle.vl_engine_model.specs.LockHistory.{HasOpen, IsLegal, nothing_open}
 use Rattle.vl_engine_model.specs.declared.file_name.FileName.{FileName}
 use Rattle.vl_engine_model.specs.declared.layout.Layout.{Layout}

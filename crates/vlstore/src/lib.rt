@@ -43,7 +43,7 @@ pub use unfailing::Unfailing;
 pub use vl_cache::Cached;
 pub use vl_collect::{Batch, Pass};
 pub use vl_compact::{Job, JobReader, Lent};
-pub use vl_disk::{Disk, HeldFile, Name, ReadFault, Reader, Writer};
+pub use vl_disk::{Disk, HeldFile, Name, ReadFault as FileFault, Reader, Writer};
 pub use vl_engine::{
     AtFail, BeginFail, CommitFail, Done, Engine, Found, InstallFail, KeepFail, MergeFail, MoveFail,
     OpenError, OpenFail, PickFail, ReadFail, ReadFault, Rows, SetFail, StepFail, SweepFail, Txn,

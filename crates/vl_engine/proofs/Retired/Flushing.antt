@@ -8,15 +8,17 @@ use Rattle.vl_back.specs.FlushEdits.{head_of}
 use Rattle.vl_engine_laws.specs.laws.FileLaws.{all_filtered}
 use Rattle.vl_engine_laws.specs.laws.WaitingLaws.{waits_first}
 use Rattle.vl_engine.proofs.Collected.{flush_by, flush_history}
-use Rattle.vl_engine.proofs.Leaving.{staged_head}
+use Rattle.vl_steps.specs.laws.Leaving.{staged_head}
 use Rattle.vl_engine.proofs.Retired.Rotating.{short}
-use Rattle.vl_engine.specs.Collecting.{Collects, FlushesFor}
-use Rattle.vl_engine.specs.Flushing.{FlushesAs}
-use Rattle.vl_engine.specs.Retiring.{FlushesStock, HoldsNeeded, IsReadied}
-use Rattle.vl_engine.specs.Stepping.{step_outcome}
-use Rattle.vl_engine.specs.declared.fails.StepFail.TheVariants as fails
-use Rattle.vl_engine.specs.declared.fails.StepFail.{StepFail}
-use Rattle.vl_engine.specs.declared.open.Collecting.{Collecting}
+use Rattle.vl_space.specs.Collecting.{Collects}
+use Rattle.vl_engine.specs.Space.{FlushesFor}
+use Rattle.vl_steps.specs.Flushing.{FlushesAs}
+use Rattle.vl_engine.specs.Space.{FlushesStock}
+use Rattle.vl_space.specs.Retiring.{HoldsNeeded, IsReadied}
+use Rattle.vl_steps.specs.Stepping.{step_outcome}
+use Rattle.vl_steps.specs.declared.fails.StepFail.TheVariants as fails
+use Rattle.vl_steps.specs.declared.fails.StepFail.{StepFail}
+use Rattle.vl_space.specs.declared.kept.Collecting.{Collecting}
 use Rattle.vl_engine_model.specs.Decides.{Answered, Damaged, Decides, Effects, Failed, NoMemory, as_before}
 use Rattle.vl_engine_model.specs.Ruling.{StepAnswer, Stepped}
 use Rattle.vl_engine_model.specs.Rulings.Flush.{flush_ruling}
@@ -37,18 +39,20 @@ use Rattle.vl_engine_laws.specs.MayStep.{HasNumbers}
 use Rattle.vl_engine_laws.specs.Represents.{StandsFor}
 use Rattle.vl_engine_laws.specs.declared.kept.Core.{Core}
 use Rattle.vl_disk.specs.declared.watched.Watched.{Ghosts}
-use Rattle.vl_engine.proofs.Collected.{decides_too, head_is_laid}
-use Rattle.vl_engine.proofs.Retired.Kept.{halts_removes, opens_lent, same_pins, stays_removes}
-use Rattle.vl_engine.proofs.Retired.Laid.{Uses, aged_more, all_more, front_tables, is_stock, just_retired, switch_logs, switch_retired}
-use Rattle.vl_engine.proofs.Retired.Laid.{switch_tables, switch_waits, uses_first, used_waits}
-use Rattle.vl_engine.proofs.Retired.Changing.{map-both, no_logs, readied_for}
-use Rattle.vl_engine.proofs.Retired.Retiring.{all_weaker, gone_logs}
-use Rattle.vl_engine.specs.Collecting.{IsTallied, head_in}
-use Rattle.vl_engine.specs.Lent.{Opens}
-use Rattle.vl_engine.specs.Removing.{IsStockOf, Removes, all_retired, lent_in}
-use Rattle.vl_engine.specs.Retiring.{SwitchesStock, is_idle_in, is_idle_log, retiring, switching, used_in}
-use Rattle.vl_engine.specs.declared.open.OpenMerge.{OpenMerge}
-use Rattle.vl_engine.specs.declared.open.Removing.{Removing}
+use Rattle.vl_engine.proofs.Collected.{decides_too}
+use Rattle.vl_space.specs.laws.CollectLaws.{head_is_laid}
+use Rattle.vl_space.specs.laws.Retired.Kept.{halts_removes, opens_lent, same_pins, stays_removes}
+use Rattle.vl_space.specs.laws.Retired.Laid.{Uses, aged_more, all_more, front_tables, is_stock, just_retired, switch_logs, switch_retired}
+use Rattle.vl_space.specs.laws.Retired.Laid.{switch_tables, switch_waits, uses_first, used_waits}
+use Rattle.vl_space.specs.laws.Retired.Changing.{map-both, no_logs, readied_for}
+use Rattle.vl_space.specs.laws.Retired.Retiring.{all_weaker, gone_logs}
+use Rattle.vl_space.specs.Collecting.{IsTallied, head_in}
+use Rattle.vl_engine_laws.specs.Lent.{Opens}
+use Rattle.vl_space.specs.Removing.{IsStockOf, Removes, all_retired}
+use Rattle.vl_engine_laws.specs.Lent.{lent_in}
+use Rattle.vl_space.specs.Retiring.{SwitchesStock, is_idle_in, is_idle_log, retiring, switching, used_in}
+use Rattle.vl_engine_laws.specs.declared.open.OpenMerge.{OpenMerge}
+use Rattle.vl_space.specs.declared.kept.Removing.{Removing}
 use Rattle.vl_engine_model.specs.Jobs.{lent_numbers}
 use Rattle.vl_engine_model.specs.Ruling.{is_idle, retired_at, switched}
 use Rattle.vl_engine_model.specs.Rulings.Flush.{flushed, flushed_table}

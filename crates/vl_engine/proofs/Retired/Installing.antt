@@ -15,21 +15,22 @@ use Rattle.vl_engine_laws.specs.declared.kept.Core.{Core}
 use Rattle.vl_engine_laws.specs.laws.FileLaws.{all_filtered}
 use Rattle.vl_engine_laws.specs.laws.LaidTables.{tables_are}
 use Rattle.vl_disk.specs.declared.writer.Writer.{Ghosts as Writers}
-use Rattle.vl_engine.proofs.Collected.{head_is_laid}
-use Rattle.vl_engine.proofs.Retired.Changing.{map-both, nothing_behind}
+use Rattle.vl_space.specs.laws.CollectLaws.{head_is_laid}
+use Rattle.vl_space.specs.laws.Retired.Changing.{map-both, nothing_behind}
 use Rattle.vl_engine.proofs.Retired.Flushing.{has_end, has_more}
-use Rattle.vl_engine.proofs.Retired.Laid.{Uses, aged_more, all_more, is_stock, just_retired, switch_logs, switch_retired}
-use Rattle.vl_engine.proofs.Retired.Laid.{switch_tables, switch_waits, uses_first, used_waits}
-use Rattle.vl_engine.proofs.Retired.Retiring.{all_there, all_weaker, gone_logs, gone_tables, has_filtered, same_either_way, tables_left}
-use Rattle.vl_engine.proofs.Retired.Retiring.{tables_logs, tables_wait}
+use Rattle.vl_space.specs.laws.Retired.Laid.{Uses, aged_more, all_more, is_stock, just_retired, switch_logs, switch_retired}
+use Rattle.vl_space.specs.laws.Retired.Laid.{switch_tables, switch_waits, uses_first, used_waits}
+use Rattle.vl_space.specs.laws.Retired.Retiring.{all_there, all_weaker, gone_logs, gone_tables, has_filtered, same_either_way, tables_left}
+use Rattle.vl_space.specs.laws.Retired.Retiring.{tables_logs, tables_wait}
 use Rattle.vl_engine.proofs.Switching.{numbers_zip}
-use Rattle.vl_engine.specs.Collecting.{IsTallied, head_in}
-use Rattle.vl_engine.specs.Merging.{HasAllMerge}
-use Rattle.vl_engine.specs.Pinning.{merge_pinned}
-use Rattle.vl_engine.specs.Removing.{IsStockOf, Removes, all_retired, lent_in}
-use Rattle.vl_engine.specs.Retiring.{InstallsInto, all_left, is_idle_log, retiring, switching, used_in}
-use Rattle.vl_engine.specs.declared.open.OpenMerge.{OpenMerge}
-use Rattle.vl_engine.specs.declared.open.Removing.{Removing}
+use Rattle.vl_space.specs.Collecting.{IsTallied, head_in}
+use Rattle.vl_steps.specs.Merging.{HasAllMerge}
+use Rattle.vl_space.specs.Pinning.{merge_pinned}
+use Rattle.vl_space.specs.Removing.{IsStockOf, Removes, all_retired}
+use Rattle.vl_engine_laws.specs.Lent.{lent_in}
+use Rattle.vl_space.specs.Retiring.{InstallsInto, all_left, is_idle_log, retiring, switching, used_in}
+use Rattle.vl_engine_laws.specs.declared.open.OpenMerge.{OpenMerge}
+use Rattle.vl_space.specs.declared.kept.Removing.{Removing}
 use Rattle.vl_engine_model.specs.Jobs.{AreDistinct, AreLent, Made, lent_numbers, loose, tables_made}
 use Rattle.vl_engine_model.specs.Levels.{is_among, replaced}
 use Rattle.vl_engine_model.specs.Merging.{outputs}

@@ -14,23 +14,26 @@ use Rattle.vl_disk.specs.declared.watched.Watched.{Ghosts}
 use Rattle.vl_disk.specs.declared.writer.Writer.{Ghosts as Writers}
 use Rattle.vl_engine.proofs.Collected.{decides_too}
 use Rattle.vl_engine.proofs.Retired.Installing.{installed_removes, made_are}
-use Rattle.vl_engine.proofs.Retired.Kept.{halts_removes, stays_removes}
+use Rattle.vl_space.specs.laws.Retired.Kept.{halts_removes, stays_removes}
 use Rattle.vl_engine.proofs.Switching.{install_by, install_history, install_layout}
-use Rattle.vl_engine.specs.Collecting.{Collects, InstallsFor, IsTallied}
-use Rattle.vl_engine.specs.Installing.{InstallsUnraced, IsHandedIn, install_otherwise, numbers_in}
+use Rattle.vl_space.specs.Collecting.{Collects, IsTallied}
+use Rattle.vl_engine.specs.Space.{InstallsFor}
+use Rattle.vl_steps.specs.Installing.{InstallsUnraced, IsHandedIn, install_otherwise, numbers_in}
 use Rattle.vl_engine.specs.UnderWay.{IsUnderWay}
 use Rattle.vl_disk.specs.declared.name.Name.{Name}
 use Rattle.vl_engine_model.specs.Merging.{outputs}
 use Rattle.vl_engine_model.specs.Sources.{numbers_of}
-use Rattle.vl_engine.specs.Merging.{HasAllMerge, StandsOpen, install_outcome}
-use Rattle.vl_engine.specs.Pinning.{merge_pinned}
-use Rattle.vl_engine.specs.Removing.{Removes}
-use Rattle.vl_engine.specs.Retiring.{InstallsInto, InstallsStock, LeavesFiles, files_in, left_of}
-use Rattle.vl_engine.specs.declared.fails.InstallFail.TheVariants as fails
-use Rattle.vl_engine.specs.declared.fails.InstallFail.{InstallFail}
-use Rattle.vl_engine.specs.declared.open.Collecting.{Collecting}
-use Rattle.vl_engine.specs.declared.open.OpenMerge.{OpenMerge}
-use Rattle.vl_engine.specs.declared.open.Removing.{Removing}
+use Rattle.vl_steps.specs.Merging.{HasAllMerge, install_outcome}
+use Rattle.vl_engine_laws.specs.Lent.{StandsOpen}
+use Rattle.vl_space.specs.Pinning.{merge_pinned}
+use Rattle.vl_space.specs.Removing.{Removes}
+use Rattle.vl_space.specs.Retiring.{InstallsInto, LeavesFiles, files_in, left_of}
+use Rattle.vl_engine.specs.Space.{InstallsStock}
+use Rattle.vl_steps.specs.declared.fails.InstallFail.TheVariants as fails
+use Rattle.vl_steps.specs.declared.fails.InstallFail.{InstallFail}
+use Rattle.vl_space.specs.declared.kept.Collecting.{Collecting}
+use Rattle.vl_engine_laws.specs.declared.open.OpenMerge.{OpenMerge}
+use Rattle.vl_space.specs.declared.kept.Removing.{Removing}
 use Rattle.vl_engine_model.specs.Decides.{Answered, Damaged, Decides, Effects, Failed, NoMemory, Outcome}
 use Rattle.vl_engine_model.specs.Jobs.{AreLent, Made, job_ended}
 use Rattle.vl_engine_model.specs.Ruling.{Ruling, halted_at}

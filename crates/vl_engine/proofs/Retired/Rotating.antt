@@ -10,19 +10,21 @@ use Rattle.vl_engine_laws.specs.RotateFacts.{HasBegun}
 use Rattle.vl_engine_laws.specs.declared.kept.Core.{Core}
 use Rattle.vl_disk.specs.declared.watched.Watched.{Ghosts}
 use Rattle.vl_engine.proofs.Collected.{decides_too}
-use Rattle.vl_engine.proofs.Committing.{decides_leaving}
-use Rattle.vl_engine.proofs.Retired.Kept.{halts_removes, opens_lent, same_pins, stays_removes}
-use Rattle.vl_engine.proofs.Retired.Laid.{aged_more, is_stock, rotated_numbers, sealed_below, uses_first, used_waits}
-use Rattle.vl_engine.proofs.Rotated.{ruled_refused}
-use Rattle.vl_engine.specs.Lent.{Opens}
-use Rattle.vl_engine.specs.Removing.{IsStockOf, Removes, all_retired, lent_in}
-use Rattle.vl_engine.specs.Retiring.{SealsInto, SealsStock, used_in}
-use Rattle.vl_engine.specs.Rotating.{IsRefusedSo, RotatesAs, rotate_effects}
-use Rattle.vl_engine.specs.Stepping.{step_outcome}
-use Rattle.vl_engine.specs.declared.fails.StepFail.TheVariants as fails
-use Rattle.vl_engine.specs.declared.fails.StepFail.{StepFail}
-use Rattle.vl_engine.specs.declared.open.OpenMerge.{OpenMerge}
-use Rattle.vl_engine.specs.declared.open.Removing.{Removing}
+use Rattle.vl_steps.specs.laws.Committing.{decides_leaving}
+use Rattle.vl_space.specs.laws.Retired.Kept.{halts_removes, opens_lent, same_pins, stays_removes}
+use Rattle.vl_space.specs.laws.Retired.Laid.{aged_more, is_stock, rotated_numbers, sealed_below, uses_first, used_waits}
+use Rattle.vl_steps.specs.laws.Rotated.{ruled_refused}
+use Rattle.vl_engine_laws.specs.Lent.{Opens}
+use Rattle.vl_space.specs.Removing.{IsStockOf, Removes, all_retired}
+use Rattle.vl_engine_laws.specs.Lent.{lent_in}
+use Rattle.vl_space.specs.Retiring.{SealsInto, used_in}
+use Rattle.vl_engine.specs.Space.{SealsStock}
+use Rattle.vl_steps.specs.Rotating.{IsRefusedSo, RotatesAs, rotate_effects}
+use Rattle.vl_steps.specs.Stepping.{step_outcome}
+use Rattle.vl_steps.specs.declared.fails.StepFail.TheVariants as fails
+use Rattle.vl_steps.specs.declared.fails.StepFail.{StepFail}
+use Rattle.vl_engine_laws.specs.declared.open.OpenMerge.{OpenMerge}
+use Rattle.vl_space.specs.declared.kept.Removing.{Removing}
 use Rattle.vl_compact.specs.declared.files.Lent.{Lent}
 use Rattle.vl_engine_model.specs.Decides.{Answered, Damaged, Decides, Effects, Failed, NoMemory, Outcome, as_before, no_effects}
 use Rattle.vl_engine_model.specs.Jobs.{lent_numbers}

@@ -25,26 +25,26 @@ use Rattle.vl_disk.specs.declared.name.Name.{Name}
 use Rattle.vl_disk.specs.declared.name.Name.TheVariants as names
 use Rattle.vl_disk.specs.declared.watched.Watched.{Ghosts}
 use Rattle.vl_disk.specs.declared.writer.Writer.{Ghosts as Writers}
-use Rattle.vl_engine.proofs.Leaving.{base_numbers}
-use Rattle.vl_engine.proofs.Stepped.{fits_halted}
-use Rattle.vl_engine.proofs.Sweeps.Freed.{all_filtered, all_then, ready_retired}
-use Rattle.vl_engine.proofs.Sweeps.Going.{Tell, all_calls, all_free, all_kept, all_told, all_untold, stops_kept, stops_untold}
-use Rattle.vl_engine.proofs.Sweeps.Going.{tell_mid, tell_parts}
+use Rattle.vl_steps.specs.laws.Leaving.{base_numbers}
+use Rattle.vl_steps.specs.laws.Stepped.{fits_halted}
+use Rattle.vl_space.specs.laws.Sweeps.Freed.{all_filtered, all_then, ready_retired}
+use Rattle.vl_space.specs.laws.Sweeps.Going.{Tell, all_calls, all_free, all_kept, all_told, all_untold, stops_kept, stops_untold}
+use Rattle.vl_space.specs.laws.Sweeps.Going.{tell_mid, tell_parts}
 use Rattle.vl_engine.proofs.Sweeps.Holding.{AreFit, Kept, MayLose, all_keep, fails_opens, fails_shows, fails_state}
-use Rattle.vl_engine.proofs.Sweeps.Outside.{all_may_go, all_unneeded, names_apart, waiting_not_active}
+use Rattle.vl_space.specs.laws.Sweeps.Outside.{all_may_go, all_unneeded, names_apart, waiting_not_active}
 use Rattle.vl_engine.proofs.Sweeps.Standing.{Leaves, count_is, leaves_collects, leaves_open, leaves_removes, leaves_stands, running}
 use Rattle.vl_engine.proofs.Sweeps.Standing.{sweeps_for}
-use Rattle.vl_engine.specs.Collecting.{Collects}
-use Rattle.vl_engine.specs.Merging.{StandsOpen}
-use Rattle.vl_engine.specs.Removing.{IsThere, IsWaiting, Removes, all_retired}
-use Rattle.vl_engine.specs.Sweeping.{AreFree, KeepsAllBut, RemovesAll, StopsRemoving, SweepCarries, SweepFailed, SweepLeavesDisk}
-use Rattle.vl_engine.specs.Sweeping.{At, Sweeps, SweepsAs}
-use Rattle.vl_engine.specs.Sweeping.{gone_before, names_of, ready, sweep_outcome, up_to}
-use Rattle.vl_engine.specs.declared.fails.SweepFail.TheVariants as fails
-use Rattle.vl_engine.specs.declared.fails.SweepFail.{SweepFail}
-use Rattle.vl_engine.specs.declared.open.OpenMerge.{OpenMerge}
-use Rattle.vl_engine.specs.declared.open.Removing.{Removing}
-use Rattle.vl_engine.specs.laws.SweepHolds.{MayGo}
+use Rattle.vl_space.specs.Collecting.{Collects}
+use Rattle.vl_engine_laws.specs.Lent.{StandsOpen}
+use Rattle.vl_space.specs.Removing.{IsThere, IsWaiting, Removes, all_retired}
+use Rattle.vl_space.specs.Sweeping.{AreFree, KeepsAllBut, RemovesAll, StopsRemoving, SweepCarries, SweepFailed, SweepLeavesDisk}
+use Rattle.vl_space.specs.Sweeping.{At, Sweeps, SweepsAs}
+use Rattle.vl_space.specs.Sweeping.{gone_before, names_of, ready, sweep_outcome, up_to}
+use Rattle.vl_space.specs.declared.fails.SweepFail.TheVariants as fails
+use Rattle.vl_space.specs.declared.fails.SweepFail.{SweepFail}
+use Rattle.vl_engine_laws.specs.declared.open.OpenMerge.{OpenMerge}
+use Rattle.vl_space.specs.declared.kept.Removing.{Removing}
+use Rattle.vl_space.specs.laws.SweepHolds.{MayGo}
 use Rattle.vl_engine_model.specs.Decides.{Answered}
 use Rattle.vl_engine_model.specs.Rulings.Sweep.{SweepAnswer, sweep_lost, sweep_unless, swept, without_files}
 use Rattle.vl_engine_model.specs.Stock.{AreOnce, files_of}

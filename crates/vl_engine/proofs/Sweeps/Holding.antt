@@ -26,11 +26,11 @@ use Rattle.vl_disk.specs.declared.name.Name.TheVariants.{Table}
 use Rattle.vl_disk.specs.declared.watched.Watched.{Ghosts}
 use Rattle.vl_disk.specs.declared.writer.Writer.{Ghosts as Writers}
 use Rattle.vl_disk.specs.laws.NameMap.{get_inserted, get_inserted_other, get_removed_other, same_or_other}
-use Rattle.vl_engine.proofs.Leaving.{manifest_held}
-use Rattle.vl_engine.proofs.Sweeps.Going.{Tell, tell_then}
-use Rattle.vl_engine.specs.Sweeping.{RemovesAll, RemovesOne, TakesIfLent}
-use Rattle.vl_engine.specs.laws.SweepHolds.{IsIdleLog, IsOutside, MayGo, adopting_leaves_so, base_now, removed_holds, removing_leaves}
-use Rattle.vl_engine.specs.laws.SweepHolds.{still_may, taken_holds, taken_opens_again, taking_leaves}
+use Rattle.vl_steps.specs.laws.Leaving.{manifest_held}
+use Rattle.vl_space.specs.laws.Sweeps.Going.{Tell, tell_then}
+use Rattle.vl_space.specs.Sweeping.{RemovesAll, RemovesOne, TakesIfLent}
+use Rattle.vl_space.specs.laws.SweepHolds.{IsIdleLog, IsOutside, MayGo, adopting_leaves_so, base_now, removed_holds, removing_leaves}
+use Rattle.vl_space.specs.laws.SweepHolds.{still_may, taken_holds, taken_opens_again, taking_leaves}
 use Rattle.vl_engine_model.specs.Tidy.{IsTidy}
 use Rattle.vl_engine_model.specs.declared.layout.Layout.{Layout}
 use Rattle.vl_model.specs.History.{History}

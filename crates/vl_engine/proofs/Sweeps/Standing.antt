@@ -12,21 +12,21 @@ use Rattle.vl_engine_laws.specs.laws.AsideLaws.{same_stands}
 use Rattle.vl_disk.specs.declared.name.Name.{Name}
 use Rattle.vl_disk.specs.declared.watched.Watched.{Ghosts}
 use Rattle.vl_disk.specs.declared.writer.Writer.{Ghosts as Writers}
-use Rattle.vl_engine.proofs.Collected.{collects_alike, collects_same}
-use Rattle.vl_engine.proofs.Committing.{decides_answered, decides_failed}
-use Rattle.vl_engine.proofs.Drawing.{stands_undrawn}
-use Rattle.vl_engine.proofs.Sweeps.Freed.{all_filtered, left_are, swept_are, swept_count}
-use Rattle.vl_engine.specs.Collecting.{Collects}
-use Rattle.vl_engine.specs.Lent.{Opens}
-use Rattle.vl_engine.specs.Merging.{StandsOpen}
-use Rattle.vl_engine.specs.Removing.{IsStockOf, Removes, UsesThoseOf, all_retired}
-use Rattle.vl_engine.specs.Sweeping.{PinsStay, SweepsAs, SweepsFor, gone_before, held, ready, up_to}
-use Rattle.vl_engine.specs.Sweeping.{sweep_otherwise}
-use Rattle.vl_engine.specs.declared.fails.SweepFail.TheVariants as fails
-use Rattle.vl_engine.specs.declared.fails.SweepFail.{SweepFail}
-use Rattle.vl_engine.specs.declared.open.Collecting.{Collecting}
-use Rattle.vl_engine.specs.declared.open.OpenMerge.{OpenMerge}
-use Rattle.vl_engine.specs.declared.open.Removing.{Removing}
+use Rattle.vl_space.specs.laws.CollectLaws.{collects_alike, collects_same}
+use Rattle.vl_steps.specs.laws.Committing.{decides_answered, decides_failed}
+use Rattle.vl_steps.specs.laws.Drawing.{stands_undrawn}
+use Rattle.vl_space.specs.laws.Sweeps.Freed.{all_filtered, left_are, swept_are, swept_count}
+use Rattle.vl_space.specs.Collecting.{Collects}
+use Rattle.vl_engine_laws.specs.Lent.{Opens}
+use Rattle.vl_engine_laws.specs.Lent.{StandsOpen}
+use Rattle.vl_space.specs.Removing.{IsStockOf, Removes, UsesThoseOf, all_retired}
+use Rattle.vl_space.specs.Sweeping.{PinsStay, SweepsAs, SweepsFor, gone_before, held, ready, up_to}
+use Rattle.vl_space.specs.Sweeping.{sweep_otherwise}
+use Rattle.vl_space.specs.declared.fails.SweepFail.TheVariants as fails
+use Rattle.vl_space.specs.declared.fails.SweepFail.{SweepFail}
+use Rattle.vl_space.specs.declared.kept.Collecting.{Collecting}
+use Rattle.vl_engine_laws.specs.declared.open.OpenMerge.{OpenMerge}
+use Rattle.vl_space.specs.declared.kept.Removing.{Removing}
 use Rattle.vl_engine_model.specs.Decides.{effects_of, no_effects}
 use Rattle.vl_engine_model.specs.Ruling.{halted_at}
 use Rattle.vl_engine_model.specs.Rulings.Sweep.{Halted, Removed, sweep_lost, sweep_unless, swept, without_files}

@@ -1,10 +1,11 @@
 ghost use Rattle.std.specs.Prelude.{◌≡◌, [], IfOk};
+ghost use Rattle.vl_engine.specs.Beginning.{past_now};
 ghost use Rattle.lru.specs.LruCache.{lru_cache};
-ghost use Rattle.vl_engine.specs.Answers.{begin_outcome, view_outcome};
-ghost use Rattle.vl_engine.specs.Past.{beginning};
-ghost use Rattle.vl_engine_laws.specs.LiesOver.{IsInMemory};
+ghost use Rattle.vl_steps.specs.Answers.{begin_outcome, view_outcome};
+ghost use Rattle.vl_reads.specs.Past.{beginning};
+ghost use Rattle.vl_version.specs.LiesOver.{IsInMemory};
 ghost use Rattle.vl_engine_laws.specs.Represents.{Fronts, Represents, StandsFor};
-ghost use Rattle.vl_engine.specs.Sees.{IsNew, Sees, SeesAlone};
+ghost use Rattle.vl_reads.specs.Sees.{IsNew, Sees, SeesAlone};
 ghost use Rattle.vl_engine_laws.specs.MayStep.{Fits};
 ghost use Rattle.vl_engine_model.specs.AtAnswer.{beginning_of};
 ghost use Rattle.vl_engine_model.specs.Decides.{Decides, as_before, no_effects};
@@ -14,17 +15,17 @@ ghost use Rattle.vl_engine_model.specs.declared.layout.Layout.{Layout};
 ghost use Rattle.vl_model.specs.History.{History};
 ghost use Rattle.vl_table.specs.Kept.{Files};
 ghost use Rattle.vl_table.specs.KeptBlocks.{AreKept};
-ghost use Rattle.vl_engine.specs.Pinning.{PinsAs};
-ghost use Rattle.vl_engine.specs.Removing.{Removes};
+ghost use Rattle.vl_space.specs.Pinning.{PinsAs};
+ghost use Rattle.vl_space.specs.Removing.{Removes};
 
-use crate::past::past_of;
-use crate::pinning::begin;
 use crate::{BeginFail, Engine, Txn, View};
 use vl_cache::Cached;
-use vl_disk::{Disk, NoMemory};
+use vl_disk::{Disk, HeldFile, NoMemory};
+use vl_engine_laws::Core;
 use vl_manifest::ManifestState;
+use vl_reads::Past;
+use vl_space::begin;
 use vl_table::{BlockReader, KEPT_BLOCKS};
-use vl_txn::{Reads, Writes};
 
 /// How many reads a transaction or a view keeps beside the blocks that it has tested.
 const CACHED_READS: u32 = 64;
@@ -80,24 +81,8 @@ impl<D: Disk> Engine<D> {
         ensures stock { self.new.removing.stock ≡ self.old.removing.stock }
         ensures logs { self.new.core.version.behind.logs ≡ self.old.core.version.behind.logs }
     {
-        let View {
-            alloc,
-            ticket,
-            number,
-            past,
-            version,
-            reader,
-        } = self.view()?;
-        Ok(Txn {
-            alloc,
-            ticket,
-            number,
-            past,
-            version,
-            reader,
-            reads: Reads::new(alloc),
-            writes: Writes::new(alloc),
-        })
+        let view = self.view()?;
+        Ok(Txn::new(view))
     }
 
     /// Begins a view, which reads what is committed now, and may not write.
@@ -149,14 +134,14 @@ impl<D: Disk> Engine<D> {
             &mut self.removing.pins,
             self.core.back.version_number,
         ) {
-            Ok(ticket) => Ok(View {
-                alloc: self.alloc,
+            Ok(ticket) => Ok(View::new(
+                self.alloc,
                 ticket,
-                number: self.core.front.oracle.last(),
+                self.core.front.oracle.last(),
                 past,
                 version,
                 reader,
-            }),
+            )),
             Err(why) => Err(why),
         }
     }
@@ -173,6 +158,17 @@ impl<D: Disk> Engine<D> {
             1
         };
         Ok(BlockReader::new(self.alloc, reader, blocks)?)
+    }
+}
+
+// How far back what begins now may read.
+fn past_of<H: HeldFile>(core: &Core<H>) -> Past
+    ensures { result ≡ past_now core.now }
+{
+    Past {
+        floor: core.front.oracle.floor(),
+        keep: core.back.state.keep,
+        since: core.back.state.since,
     }
 }
 

@@ -1,10 +1,10 @@
 ghost use Rattle.std.specs.Prelude.{◌≡◌, ◌<◌, ℕ, ◌↔◌, ◌⊎◌, ◌==◌, ◌||◌, nat_lt, None, Some, Err, IfErr, IfOk};
 ghost use Rattle.vl_engine_laws.specs.MayStep.{Fits};
 ghost use Rattle.vl_engine_laws.specs.Represents.{Represents, StandsFor};
-ghost use Rattle.vl_engine.specs.Collecting.{BeginsOver, BeginsPass, Collects, FitsLooks, IsPicked, LacksLog, Passes};
-ghost use Rattle.vl_engine.specs.Collecting.{pick_outcome};
-ghost use Rattle.vl_engine.specs.Merging.{StandsOpen};
-ghost use Rattle.vl_engine.specs.declared.fails.PickFail.TheVariants as fails;
+ghost use Rattle.vl_space.specs.Collecting.{BeginsOver, BeginsPass, Collects, FitsLooks, IsPicked, LacksLog, Passes};
+ghost use Rattle.vl_space.specs.Collecting.{pick_outcome};
+ghost use Rattle.vl_engine_laws.specs.Lent.{StandsOpen};
+ghost use Rattle.vl_space.specs.declared.fails.PickFail.TheVariants as fails;
 ghost use Rattle.vl_engine_model.specs.Decides.{Decides, as_before, no_effects};
 ghost use Rattle.vl_engine_model.specs.Relocation as layout;
 ghost use Rattle.vl_engine_model.specs.Rulings.EndPass.{end_pass_ruling};
@@ -12,15 +12,15 @@ ghost use Rattle.vl_engine_model.specs.Rulings.Pick.{pick_ruling};
 ghost use Rattle.vl_engine_model.specs.Rulings.Stats.{stats_ruling};
 ghost use Rattle.vl_engine_model.specs.declared.layout.Layout.{Layout};
 ghost use Rattle.vl_model.specs.History.{History};
-ghost use Rattle.vl_engine.specs.Pinning.{PinsPass, pass_pinned};
-ghost use Rattle.vl_engine.specs.Removing.{Removes};
+ghost use Rattle.vl_space.specs.Pinning.{PinsPass, pass_pinned};
+ghost use Rattle.vl_space.specs.Removing.{Removes};
 
-use crate::collecting::{head_of, shared_log, tally_of};
 use crate::{Engine, PickFail};
 use std::alloc::AllocError;
 use vl_collect::Pass;
 use vl_disk::{Disk, NoMemory};
 use vl_engine_model::SegmentStat;
+use vl_space::{head_of, shared_log, tally_of};
 use vl_version::Base;
 
 impl<D: Disk> Engine<D> {

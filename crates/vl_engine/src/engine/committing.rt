@@ -1,40 +1,43 @@
-ghost use Rattle.std.specs.Prelude.{◌≡◌, ℕ, List, IsTrue, None, Ok, OnOk, Some};
+ghost use Rattle.std.specs.Prelude.{◌≡◌, ◌≤◌, ℕ, List, IfOk, IsTrue, None, Ok, OnOk, Some};
 ghost use Rattle.std.specs.FinMap.{entries};
 ghost use Rattle.vl_disk.specs.DiskState.{DiskState};
 ghost use Rattle.vl_disk.specs.Calls.{ChangesNothing};
 ghost use Rattle.vl_disk.specs.Faults.{HasCause};
 ghost use Rattle.vl_disk.specs.declared.name.Name.{Name};
 ghost use Rattle.vl_disk.specs.declared.name.Name.TheVariants as names;
-ghost use Rattle.vl_engine.specs.Answers.{CommitFailed, IsWritable, LeavesDisk, commit_effects, commit_outcome, handed_back};
+ghost use Rattle.vl_steps.specs.Answers.{CommitFailed, IsWritable, LeavesDisk, commit_effects, commit_outcome, handed_back};
 ghost use Rattle.vl_engine_laws.specs.Carries.{Carries, SameFiles, StaysUntold};
 ghost use Rattle.vl_engine_laws.specs.Represents.{Fronts, IsLive, Represents, StandsFor};
-ghost use Rattle.vl_engine.specs.Sees.{Sees, asked};
+ghost use Rattle.vl_reads.specs.Sees.{Sees, asked};
 ghost use Rattle.vl_engine_laws.specs.MayStep.{Fits};
-ghost use Rattle.vl_engine.specs.Steps.{WritesAs};
+ghost use Rattle.vl_steps.specs.Steps.{WritesAs};
 ghost use Rattle.vl_engine_laws.specs.Writing.{StopsWriting};
-ghost use Rattle.vl_front.specs.Decisions.{MayWrite};
-ghost use Rattle.vl_engine.specs.declared.engine.Done.TheVariants as done;
-ghost use Rattle.vl_engine.specs.declared.fails.CommitFail.TheVariants as fails;
-ghost use Rattle.vl_engine.specs.declared.txn.Txn.{Txn};
+ghost use Rattle.vl_conflict.specs.Recent.{Remembers};
+ghost use Rattle.vl_front.specs.Decisions.{MayWrite, decision_of};
+ghost use Rattle.vl_front.specs.declared.decision.Decision.TheVariants.{Write};
+ghost use Rattle.vl_steps.specs.declared.done.Done.TheVariants as done;
+ghost use Rattle.vl_steps.specs.declared.fails.CommitFail.TheVariants as fails;
+ghost use Rattle.vl_reads.specs.declared.txn.Txn.{Txn};
 ghost use Rattle.vl_engine_model.specs.Decides.{Decides, as_before};
 ghost use Rattle.vl_engine_model.specs.Rulings.Commit.{commit_frame, commit_lost, commit_ruling};
 ghost use Rattle.vl_engine_model.specs.declared.layout.Layout.{Layout};
+ghost use Rattle.vl_model.specs.Conflicts.{first_conflict};
 ghost use Rattle.vl_model.specs.Formats.{log_format};
 ghost use Rattle.vl_model.specs.History.{History, last_number};
 ghost use Rattle.vl_model.specs.Notes.{AreNotesOf};
 ghost use Rattle.vl_model.specs.Reads.{IsExplained, Read};
 ghost use Rattle.vl_seglog.specs.Frames.{frame_at};
-ghost use Rattle.vl_engine.specs.Pinning.{UnpinsAs};
-ghost use Rattle.vl_engine.specs.Removing.{Removes};
+ghost use Rattle.vl_engine.specs.Space.{UnpinsAs};
+ghost use Rattle.vl_space.specs.Removing.{Removes};
 
-use crate::staging::{StagedCommit, stage_commit};
-use crate::writing::append_durably;
 use crate::{CommitFail, Done, Engine, Txn};
+use std::alloc::AllocError;
 use vl_cache::Cached;
 use vl_disk::{Disk, Name};
 use vl_front::Decision;
 use vl_model::reads_without_conflict_stay_explained;
 use vl_seglog::ActiveLog;
+use vl_steps::{StagedCommit, append_durably, stage_commit};
 
 impl<D: Disk> Engine<D> {
     /// Makes a transaction the next commit, or says why not. It is synced before it is answered, by one append and one sync,
@@ -114,21 +117,21 @@ impl<D: Disk> Engine<D> {
         ensures removing { UnpinsAs txn.ticket self.old.removing self.new.removing result }
         ensures logs { self.new.core.version.behind.logs ≡ self.old.core.version.behind.logs }
     {
-        let Ok(decision) = self.core.front.decide(txn.number, &txn.reads, &txn.writes) else {
+        let Ok(decision) = self.decided(&txn) else {
             return Err(CommitFail::NoMemory(txn));
         };
         match decision {
             Decision::Halted(name) => {
-                self.end(txn.ticket);
+                self.forget(txn);
                 Err(CommitFail::Halted { name })
             }
             Decision::Nothing => {
-                self.end(txn.ticket);
+                self.forget(txn);
                 Ok(Done::Nothing)
             }
             Decision::Exhausted => Err(CommitFail::Exhausted(txn)),
             Decision::Conflict { key, number } => {
-                self.end(txn.ticket);
+                self.forget(txn);
                 Err(CommitFail::Conflict { key, number })
             }
             Decision::Full { length, frame } => Err(CommitFail::Full { txn, length, frame }),
@@ -137,6 +140,19 @@ impl<D: Disk> Engine<D> {
                 self.write(txn)
             }
         }
+    }
+
+    // What a transaction's commit comes to before anything is written.
+    fn decided(&self, txn: &Txn<D::Held, Cached<D::Reader>>) -> Result<Decision, AllocError>
+        ensures decided { IfOk result (λ decision. (h : History) (floor : ℕ) (rs : List Read)
+            → Remembers floor h self.now.core.front.recent.named → floor ≤ txn.now.number
+            → AreNotesOf rs txn.now.reads.keys txn.now.reads.spans
+            → decision ≡ decision_of self.now.core.front (entries txn.now.writes) (first_conflict h txn.now.number rs)) }
+        ensures write { IfOk result (λ decision. decision ≡ Write → MayWrite self.now.core.front (entries txn.now.writes)) }
+    {
+        self.core
+            .front
+            .decide(txn.number(), txn.reads(), txn.writes())
     }
 
     // Writes the commit of a transaction, which may be written.
@@ -155,7 +171,8 @@ impl<D: Disk> Engine<D> {
         ensures untouched { LeavesDisk result → ChangesNothing D.Watched self.old.disk self.new.disk ⊥ }
         ensures as_written { WritesAs D.Watched self.old.disk self.new.disk self.old.core self.new.core txn.ticket txn.writes result }
     {
-        let Ok(staged) = stage_commit(self.alloc, &mut self.disk, &mut self.core, &txn.writes)
+        let ticket = txn.ticket();
+        let Ok(staged) = stage_commit(self.alloc, &mut self.disk, &mut self.core, txn.writes())
         else {
             return Err(CommitFail::NoMemory(txn));
         };
@@ -172,15 +189,15 @@ impl<D: Disk> Engine<D> {
         let Ok(()) = append_durably(&mut log, &mut self.disk, &frame) else {
             let name = Name::Log(self.core.front.log.number);
             self.core.front.halted = Some(name);
-            self.core.front.end(txn.ticket);
-            self.removing.pins.end(txn.ticket);
+            self.core.front.end(ticket);
+            self.removing.pins.end(ticket);
             return Err(CommitFail::Disk { name });
         };
         let number = self.core.front.oracle.last() + 1;
         self.core.front.log = log;
         self.core.version.set_active(active);
-        self.core.front.committed(txn.ticket, keys);
-        self.removing.pins.end(txn.ticket);
+        self.core.front.committed(ticket, keys);
+        self.removing.pins.end(ticket);
         Ok(Done::At(number))
     }
 }

@@ -9,24 +9,25 @@ ghost use Rattle.vl_disk.specs.Faults.{HasCause, after_calls};
 ghost use Rattle.vl_disk.specs.declared.name.Name.TheVariants as names;
 ghost use Rattle.vl_disk.specs.declared.name.Name.{Name};
 ghost use Rattle.vl_engine_laws.specs.Carries.{Carries, StaysUntold};
-ghost use Rattle.vl_engine.specs.Drawing.{DrawsCore, FreshLeavesDisk, IsLentMore, IsNewTo, IsSameJob, IsSameMerge};
-ghost use Rattle.vl_engine.specs.Drawing.{MayDraw, StopsDrawing, WritesFresh, lent_new};
-ghost use Rattle.vl_engine.specs.Merging.{StandsOpen, fresh_effects, fresh_outcome};
+ghost use Rattle.vl_steps.specs.Drawing.{DrawsCore, FreshLeavesDisk, IsLentMore, IsNewTo, IsSameJob, IsSameMerge};
+ghost use Rattle.vl_steps.specs.Drawing.{MayDraw, StopsDrawing, WritesFresh, lent_new};
+ghost use Rattle.vl_engine_laws.specs.Lent.{StandsOpen};
+ghost use Rattle.vl_steps.specs.Merging.{fresh_effects, fresh_outcome};
 ghost use Rattle.vl_engine_laws.specs.Represents.{Fronts, Represents};
-ghost use Rattle.vl_engine.specs.Stepping.{StepFailed};
+ghost use Rattle.vl_steps.specs.Stepping.{StepFailed};
 ghost use Rattle.vl_engine_laws.specs.MayStep.{Fits, HasNumbers, LeavesNumbers};
-ghost use Rattle.vl_engine.specs.declared.fails.StepFail.TheVariants as fails;
+ghost use Rattle.vl_steps.specs.declared.fails.StepFail.TheVariants as fails;
 ghost use Rattle.vl_engine_model.specs.Decides.{Decides, as_before};
 ghost use Rattle.vl_engine_model.specs.Rulings.Fresh.{fresh_ruling};
 ghost use Rattle.vl_engine_model.specs.declared.layout.Layout.{Layout};
 ghost use Rattle.vl_model.specs.History.{History};
-ghost use Rattle.vl_engine.specs.Removing.{Removes};
+ghost use Rattle.vl_space.specs.Removing.{Removes};
 
-use crate::making::{lend_new, make_room_to_leave, note_lent, ready_fresh};
 use crate::{Engine, StepFail};
 use vl_compact::{Job, Lent};
 use vl_disk::{Disk, Name};
 use vl_model::{Counter, MAX_FILE_NUMBER};
+use vl_steps::{lend_new, make_room_to_leave, note_lent, ready_fresh};
 use vl_version::Base;
 
 impl<D: Disk> Engine<D> {

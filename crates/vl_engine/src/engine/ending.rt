@@ -4,8 +4,8 @@ ghost use Rattle.vl_engine_laws.specs.MayStep.{Fits};
 ghost use Rattle.vl_engine_model.specs.Ruling.{ended};
 ghost use Rattle.vl_engine_model.specs.declared.layout.Layout.{Layout};
 ghost use Rattle.vl_model.specs.History.{History, last_number};
-ghost use Rattle.vl_engine.specs.Pinning.{unpinned};
-ghost use Rattle.vl_engine.specs.Removing.{Removes};
+ghost use Rattle.vl_space.specs.Pinning.{unpinned};
+ghost use Rattle.vl_space.specs.Removing.{Removes};
 
 use crate::{Engine, Txn, View};
 use vl_cache::Cached;
@@ -32,7 +32,7 @@ impl<D: Disk> Engine<D> {
         ensures removing { self.new.removing ≡ unpinned txn.ticket self.old.removing }
         ensures logs { self.new.core.version.behind.logs ≡ self.old.core.version.behind.logs }
     {
-        self.end(txn.ticket);
+        self.end(txn.ticket());
     }
 
     /// Ends a view. It wants no memory.
@@ -54,7 +54,7 @@ impl<D: Disk> Engine<D> {
         ensures removing { self.new.removing ≡ unpinned view.ticket self.old.removing }
         ensures logs { self.new.core.version.behind.logs ≡ self.old.core.version.behind.logs }
     {
-        self.end(view.ticket);
+        self.end(view.ticket());
     }
 
     // Ends what has this ticket.

@@ -8,27 +8,28 @@ ghost use Rattle.vl_disk.specs.declared.name.Name.TheVariants as names;
 ghost use Rattle.vl_disk.specs.declared.name.Name.{Name};
 ghost use Rattle.vl_engine_laws.specs.Carries.{Carries, StaysUntold};
 ghost use Rattle.vl_back.specs.declared.staging.StagedFlush.{StagedFlush};
-ghost use Rattle.vl_engine.specs.Collecting.{Collects, FlushesFor};
-ghost use Rattle.vl_engine.specs.Flushing.{FlushesAs, flush_effects};
+ghost use Rattle.vl_space.specs.Collecting.{Collects};
+ghost use Rattle.vl_engine.specs.Space.{FlushesFor};
+ghost use Rattle.vl_steps.specs.Flushing.{FlushesAs, flush_effects};
 ghost use Rattle.vl_engine_laws.specs.FlushFacts.{IsFlushWritten, StopsFlushing, WritesFlush};
 ghost use Rattle.vl_engine_laws.specs.Represents.{Fronts, Represents, StandsFor};
-ghost use Rattle.vl_engine.specs.Stepping.{StepFailed, StepLeavesDisk, step_outcome};
+ghost use Rattle.vl_steps.specs.Stepping.{StepFailed, StepLeavesDisk, step_outcome};
 ghost use Rattle.vl_engine_laws.specs.MayStep.{AreLogFiles, Fits, HasNumbers, LeavesNumbers};
-ghost use Rattle.vl_engine.specs.declared.fails.StepFail.TheVariants as fails;
+ghost use Rattle.vl_steps.specs.declared.fails.StepFail.TheVariants as fails;
 ghost use Rattle.vl_engine_model.specs.Decides.{Decides, as_before};
 ghost use Rattle.vl_engine_model.specs.Rulings.Flush.{flush_ruling};
 ghost use Rattle.vl_engine_model.specs.declared.layout.Layout.{Layout};
 ghost use Rattle.vl_model.specs.History.{History};
-ghost use Rattle.vl_engine.specs.Lent.{Opens};
-ghost use Rattle.vl_engine.specs.Removing.{Removes, lent_in};
-ghost use Rattle.vl_engine.specs.Retiring.{FlushesStock};
+ghost use Rattle.vl_engine_laws.specs.Lent.{Opens};
+ghost use Rattle.vl_space.specs.Removing.{Removes};
+ghost use Rattle.vl_engine_laws.specs.Lent.{lent_in};
+ghost use Rattle.vl_engine.specs.Space.{FlushesStock};
 
-use crate::collecting::{head_of, idle_logs};
-use crate::flushing::{ReadyFlush, ready_flush};
-use crate::making::lent_count;
 use crate::{Engine, StepFail};
 use vl_back::{Decision, StagedFlush, StagedTable, write_and_switch};
 use vl_disk::Disk;
+use vl_space::{head_of, idle_logs};
+use vl_steps::{ReadyFlush, lent_count, ready_flush};
 use vl_table::Table;
 
 impl<D: Disk> Engine<D> {

@@ -7,17 +7,21 @@ ghost use Rattle.vl_disk.specs.DiskState.{DiskState};
 ghost use Rattle.vl_disk.specs.Faults.{HasCause, after_calls};
 ghost use Rattle.vl_disk.specs.declared.name.Name.{Name};
 ghost use Rattle.vl_engine_laws.specs.Carries.{Carries, StaysUntold};
-ghost use Rattle.vl_engine.specs.Collecting.{Collects, InstallsFor, LeadsFrom, points_in, points_made};
-ghost use Rattle.vl_engine.specs.Installing.{HandsBack, InstallFailed, InstallLeavesDisk, InstallsAs, InstallsCore};
-ghost use Rattle.vl_engine.specs.Installing.{InstallsUnraced, IsHandedIn, IsInstallWritten, KeepsAllBut, MayInstall};
-ghost use Rattle.vl_engine.specs.Installing.{StopsInstall, WritesInstall, install_otherwise};
-ghost use Rattle.vl_engine.specs.Removing.{Removes, lent_in};
-ghost use Rattle.vl_engine.specs.Retiring.{InstallsStock, LeavesFiles, files_in};
+ghost use Rattle.vl_space.specs.Collecting.{Collects, LeadsFrom, points_in, points_made};
+ghost use Rattle.vl_engine.specs.Space.{InstallsFor};
+ghost use Rattle.vl_steps.specs.Installing.{HandsBack, InstallFailed, InstallLeavesDisk, InstallsAs, InstallsCore};
+ghost use Rattle.vl_steps.specs.Installing.{InstallsUnraced, IsHandedIn, IsInstallWritten, KeepsAllBut, MayInstall};
+ghost use Rattle.vl_steps.specs.Installing.{StopsInstall, WritesInstall, install_otherwise};
+ghost use Rattle.vl_space.specs.Removing.{Removes};
+ghost use Rattle.vl_engine_laws.specs.Lent.{lent_in};
+ghost use Rattle.vl_engine.specs.Space.{InstallsStock};
+ghost use Rattle.vl_space.specs.Retiring.{LeavesFiles, files_in};
 ghost use Rattle.vl_engine.specs.UnderWay.{IsUnderWay};
-ghost use Rattle.vl_engine.specs.Merging.{HasAllMerge, StandsOpen, install_effects, install_outcome, made_numbers};
+ghost use Rattle.vl_steps.specs.Merging.{HasAllMerge, install_effects, install_outcome, made_numbers};
+ghost use Rattle.vl_engine_laws.specs.Lent.{StandsOpen};
 ghost use Rattle.vl_engine_laws.specs.Represents.{Represents};
 ghost use Rattle.vl_engine_laws.specs.MayStep.{AreLogFiles, Fits, LeavesNumbers};
-ghost use Rattle.vl_engine.specs.declared.fails.InstallFail.TheVariants as fails;
+ghost use Rattle.vl_steps.specs.declared.fails.InstallFail.TheVariants as fails;
 ghost use Rattle.vl_engine_model.specs.Decides.{Decides};
 ghost use Rattle.vl_engine_model.specs.Jobs.{AreLent};
 ghost use Rattle.vl_engine_model.specs.Rulings.Install.{install_ruling, race};
@@ -30,18 +34,16 @@ ghost use Rattle.vl_table.specs.Tables.{number_of};
 ghost use Rattle.vl_version.specs.Bases.{is_input};
 ghost use Rattle.vl_version.specs.levels.LevelsLooked.{tables_of};
 
-use crate::collecting::{head_of, idle_logs};
-use crate::installing::{
-    ReadyInstall, input_numbers, made_numbers, numbers_of, ready_install, write_install,
-};
-use crate::making::lent_count;
-use crate::removing::{give_up, leave_files};
 use crate::{Engine, InstallFail};
 use std::alloc::AllocError;
-use vl_compact::{Job, Parts};
+use vl_compact::{Job, Parts, numbers_of};
 use vl_disk::Disk;
 use vl_model::{Counter, Key};
+use vl_space::{give_up, head_of, idle_logs, leave_files};
 use vl_stats::LiveBytes;
+use vl_steps::{
+    ReadyInstall, input_numbers, lent_count, made_numbers, ready_install, write_install,
+};
 use vl_version::Base;
 
 impl<D: Disk> Engine<D> {

@@ -1,8 +1,9 @@
 ghost use Rattle.std.specs.Prelude.{◌≡◌, IfOk, None, Ok, OnOk, Some};
-ghost use Rattle.vl_engine.specs.Collecting.{Collects};
-ghost use Rattle.vl_engine.specs.Installing.{IsHandedIn};
-ghost use Rattle.vl_engine.specs.Merging.{FitsReaders, HasMerge, StandsOpen};
-ghost use Rattle.vl_engine.specs.Removing.{Removes};
+ghost use Rattle.vl_space.specs.Collecting.{Collects};
+ghost use Rattle.vl_steps.specs.Installing.{IsHandedIn};
+ghost use Rattle.vl_steps.specs.Merging.{FitsReaders, HasMerge};
+ghost use Rattle.vl_engine_laws.specs.Lent.{StandsOpen};
+ghost use Rattle.vl_space.specs.Removing.{Removes};
 ghost use Rattle.vl_engine_laws.specs.Represents.{Represents};
 ghost use Rattle.vl_engine_laws.specs.MayStep.{Fits};
 ghost use Rattle.vl_engine.specs.UnderWay.{GivesUp, IfHandedBack, IsUnderWay};

@@ -7,7 +7,7 @@ ghost use Rattle.vl_disk.specs.Moments.{HoldsThroughout};
 ghost use Rattle.vl_disk.specs.Started.{IsRead};
 ghost use Rattle.vl_disk.specs.declared.name.Name.{Name};
 ghost use Rattle.vl_engine_laws.specs.Carries.{CrashesShow, Tells};
-ghost use Rattle.vl_engine.specs.Collecting.{Collects, nothing_collected};
+ghost use Rattle.vl_space.specs.Collecting.{Collects, nothing_collected};
 ghost use Rattle.vl_engine.specs.Opening.{AnswersOpening, IsAsBefore};
 ghost use Rattle.vl_engine_laws.specs.Found.{AreLeveled, IsBackAtStart, IsCoreOf};
 ghost use Rattle.vl_engine.specs.Opening.{IsDiskFault, IsFault, disk_behind, reader_faults};
@@ -27,9 +27,8 @@ ghost use Rattle.vl_recover.specs.opening.Intact.{IsIntact, LeavesIntact};
 ghost use Rattle.vl_recover.specs.opening.Opening.{NamesNoTable};
 ghost use Rattle.vl_recover.specs.opening.Results.{recovery_by};
 ghost use Rattle.vl_recover.specs.repairing.Steps.{MakesSome};
-ghost use Rattle.vl_engine.specs.Removing.{IsNothingRemoved, Removes};
+ghost use Rattle.vl_space.specs.Removing.{IsNothingRemoved, Removes};
 
-use crate::open::{Collecting, Removing};
 use crate::{Engine, OpenError, OpenFail};
 use std::alloc::Global;
 use vl_back::Back;
@@ -38,6 +37,7 @@ use vl_engine_laws::Core;
 use vl_front::Front;
 use vl_pins::{Pins, Stock};
 use vl_recover::{Parts, recover};
+use vl_space::{Collecting, Removing};
 use vl_table::Table;
 use vl_version::{Level, Levels, Version};
 

@@ -2,8 +2,9 @@ ghost use Rattle.std.specs.Prelude.{◌≡◌, None, Option, Some, IfOk, OnErr, 
 ghost use Rattle.std.specs.Option.{ForSome};
 ghost use Rattle.vl_compact.specs.Laid.{AreBoth};
 ghost use Rattle.vl_compact.specs.Progress.{IsNew, made_of};
-ghost use Rattle.vl_engine.specs.Merging.{FitsReaders, HasMerge, IsJustOpen, IsMergeFor, IsMergeOf, OpensMerge, StandsOpen, plan_outcome};
-ghost use Rattle.vl_engine.specs.Planning.{IsChosen};
+ghost use Rattle.vl_steps.specs.Merging.{FitsReaders, HasMerge, IsJustOpen, IsMergeFor, IsMergeOf, OpensMerge, plan_outcome};
+ghost use Rattle.vl_engine_laws.specs.Lent.{StandsOpen};
+ghost use Rattle.vl_steps.specs.Planning.{IsChosen};
 ghost use Rattle.vl_engine_laws.specs.Represents.{Fronts, Represents, StandsFor};
 ghost use Rattle.vl_engine_laws.specs.MayStep.{Fits};
 ghost use Rattle.vl_engine_model.specs.Decides.{Decides, as_before, no_effects};
@@ -19,16 +20,16 @@ ghost use Rattle.vl_model.specs.History.{History};
 ghost use Rattle.vl_table.specs.Kept.{Files};
 ghost use Rattle.vl_table.specs.KeptBlocks.{AreKept};
 ghost use Rattle.vl_version.specs.Bases as bases;
-ghost use Rattle.vl_engine.specs.Pinning.{PinsMerge, merge_pinned};
-ghost use Rattle.vl_engine.specs.Removing.{Removes};
-ghost use Rattle.vl_engine.specs.Retiring.{LeavesFiles, files_in};
+ghost use Rattle.vl_space.specs.Pinning.{PinsMerge, merge_pinned};
+ghost use Rattle.vl_space.specs.Removing.{Removes};
+ghost use Rattle.vl_space.specs.Retiring.{LeavesFiles, files_in};
 ghost use Rattle.vl_engine.specs.UnderWay.{IsUnderWay};
 
 use crate::Engine;
-use crate::open::OpenMerge;
 use std::alloc::AllocError;
 use vl_compact::{Inputs, Job, JobReader, drained, planned};
 use vl_disk::{Disk, NoMemory};
+use vl_engine_laws::OpenMerge;
 use vl_table::{BlockReader, KEPT_BLOCKS};
 use vl_version::Base;
 

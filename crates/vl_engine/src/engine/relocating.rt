@@ -9,10 +9,10 @@ ghost use Rattle.vl_disk.specs.Faults.{HasCause, after_calls};
 ghost use Rattle.vl_disk.specs.declared.errors.DiskFail.TheVariants as why;
 ghost use Rattle.vl_disk.specs.declared.name.Name.{Name};
 ghost use Rattle.vl_disk.specs.declared.name.Name.TheVariants as names;
-ghost use Rattle.vl_engine.specs.Merging.{StandsOpen};
-ghost use Rattle.vl_engine.specs.Relocating.{IsDamaged, IsMovable, IsOfPass, IsTableAmong, MayMove, MoveCounts, MoveLeavesDisk, MoveNotes};
-ghost use Rattle.vl_engine.specs.Relocating.{RelocatesAs, WritesMove, at, batch_back, move_effects, move_outcome, moved_version};
-ghost use Rattle.vl_engine.specs.declared.fails.MoveFail.TheVariants as fails;
+ghost use Rattle.vl_engine_laws.specs.Lent.{StandsOpen};
+ghost use Rattle.vl_steps.specs.Relocating.{IsDamaged, IsMovable, IsOfPass, IsTableAmong, MayMove, MoveCounts, MoveLeavesDisk, MoveNotes};
+ghost use Rattle.vl_steps.specs.Relocating.{RelocatesAs, WritesMove, at, batch_back, move_effects, move_outcome, moved_version};
+ghost use Rattle.vl_steps.specs.declared.fails.MoveFail.TheVariants as fails;
 ghost use Rattle.vl_engine_model.specs.Decides.{Decides, as_before};
 ghost use Rattle.vl_engine_model.specs.Relocation as layout;
 ghost use Rattle.vl_engine_model.specs.Relocation.{Candidate, moved_of};
@@ -27,17 +27,16 @@ ghost use Rattle.vl_model.specs.declared.log_frame.LogFrame.TheVariants.{Relocat
 ghost use Rattle.vl_seglog.specs.Frames.{frame_at};
 ghost use Rattle.vl_version.specs.Bases as bases;
 ghost use Rattle.vl_version.specs.Sources.{tables_in};
-ghost use Rattle.vl_engine.specs.Removing.{Removes};
+ghost use Rattle.vl_space.specs.Removing.{Removes};
 
-use crate::relocating::{
-    StagedMove, has_room, move_length, note_moves, records_to_move, stage_move,
-};
-use crate::writing::append_durably;
 use crate::{Engine, MoveFail};
 use vl_collect::{Batch, Pass};
 use vl_disk::{Disk, DiskFail, Name, ReadFault};
 use vl_model::{Counter, MAX_VERSION_NUMBER, Moved};
 use vl_seglog::ActiveLog;
+use vl_steps::{
+    StagedMove, append_durably, has_room, move_length, note_moves, records_to_move, stage_move,
+};
 use vl_table::BlockReader;
 use vl_version::Base;
 

@@ -7,27 +7,28 @@ ghost use Rattle.vl_disk.specs.declared.name.Name.{Name};
 ghost use Rattle.vl_disk.specs.declared.name.Name.TheVariants as names;
 ghost use Rattle.vl_engine_laws.specs.Carries.{Carries, StaysUntold};
 ghost use Rattle.vl_engine_laws.specs.Represents.{Fronts, Represents, StandsFor};
-ghost use Rattle.vl_engine.specs.Collecting.{Collects, SealsFor};
-ghost use Rattle.vl_engine.specs.Rotating.{RotatesAs, rotate_calls, rotate_effects};
+ghost use Rattle.vl_space.specs.Collecting.{Collects};
+ghost use Rattle.vl_engine.specs.Space.{SealsFor};
+ghost use Rattle.vl_steps.specs.Rotating.{RotatesAs, rotate_calls, rotate_effects};
 ghost use Rattle.vl_engine_laws.specs.RotateFacts.{BeginsLog, HasActive, MayBegin, StopsRotating};
-ghost use Rattle.vl_engine.specs.Stepping.{StepFailed, StepLeavesDisk, step_outcome};
+ghost use Rattle.vl_steps.specs.Stepping.{StepFailed, StepLeavesDisk, step_outcome};
 ghost use Rattle.vl_engine_laws.specs.MayStep.{Fits, HasNumbers, LeavesNumbers};
-ghost use Rattle.vl_engine.specs.declared.fails.StepFail.TheVariants as fails;
+ghost use Rattle.vl_steps.specs.declared.fails.StepFail.TheVariants as fails;
 ghost use Rattle.vl_engine_model.specs.Decides.{Decides, as_before};
 ghost use Rattle.vl_engine_model.specs.Rulings.Rotate.{rotate_ruling};
 ghost use Rattle.vl_engine_model.specs.Tidy.{IsTrueLog};
 ghost use Rattle.vl_engine_model.specs.declared.layout.Layout.{Layout};
 ghost use Rattle.vl_model.specs.History.{History};
-ghost use Rattle.vl_engine.specs.Lent.{Opens};
-ghost use Rattle.vl_engine.specs.Removing.{Removes, lent_in};
-ghost use Rattle.vl_engine.specs.Retiring.{SealsStock};
+ghost use Rattle.vl_engine_laws.specs.Lent.{Opens};
+ghost use Rattle.vl_space.specs.Removing.{Removes};
+ghost use Rattle.vl_engine_laws.specs.Lent.{lent_in};
+ghost use Rattle.vl_engine.specs.Space.{SealsStock};
 
-use crate::making::lent_count;
-use crate::rotating::{refusal, stage_rotation};
 use crate::{Engine, StepFail};
 use vl_back::{Waiting, make_log};
 use vl_disk::{Disk, DiskFail, Name};
 use vl_seglog::ActiveLog;
+use vl_steps::{lent_count, refusal, stage_rotation};
 
 impl<D: Disk> Engine<D> {
     /// Seals the active log and begins a new one, and answers with the number of the sealed one; none where no commit stands

@@ -1,10 +1,10 @@
 ghost use Rattle.std.specs.Prelude.{◌≡◌, None, Some};
 ghost use Rattle.vl_disk.specs.Faults.{HasCause};
-ghost use Rattle.vl_engine.specs.Sweeping.{PinsStay, SweepFailed, Sweeps, SweepsAs, at, up_to};
+ghost use Rattle.vl_space.specs.Sweeping.{PinsStay, SweepFailed, Sweeps, SweepsAs, at, up_to};
 
-use crate::sweeping::remove_file;
 use crate::{Engine, SweepFail};
 use vl_disk::Disk;
+use vl_space::remove_file;
 
 impl<D: Disk> Engine<D> {
     /// Removes the retired files that nothing holds any more, the earliest retired first, and answers how many went. A transaction, a

@@ -7,7 +7,8 @@ use Rattle.std.proofs.lemmas.Bool.Decides.{nat_tests}
 use Rattle.std.specs.Prelude.{Option, Some, None, nat_le, ◌==◌}
 use Rattle.std.specs.List.{AllZip, list_any}
 use Rattle.vl_engine_laws.specs.Spared.{IsSpared}
-use Rattle.vl_engine_laws.specs.laws.SparedLaws.{IsNear, near, passes_risen}
+use Rattle.vl_engine_model.specs.laws.LowStays.{IsNear, near}
+use Rattle.vl_engine_laws.specs.laws.SparedLaws.{passes_risen}
 use Rattle.vl_engine_model.specs.Marks.{kept_of, plain}
 use Rattle.vl_engine_model.specs.Merging.{Sourced, if_so, inputs_of, is_below, is_needless, is_needless_one, is_outdated, is_shadowed, outside_of}
 use Rattle.vl_engine_model.specs.OpenJobs.{IsKeptFor, IsStillBehind, Preceded, preceded, preceded_if}

@@ -4,7 +4,7 @@ use Rattle.std.specs.Prelude.{◌≡◌, ◌<◌, ℕ, ◌+◌, List, [], ◌∷
 use Rattle.std.specs.List.{AllByRecursion, AllZip}
 use Rattle.std.proofs.Common.{sym, ap, subst, ◌∙◌}
 use Rattle.vl_engine_laws.specs.Laid.{AreLevelsOf, HasLayout, HasLog, IsMemtableOf, IsTableOf}
-use Rattle.vl_engine_laws.specs.LiesOver.{IsInMemory}
+use Rattle.vl_version.specs.LiesOver.{IsInMemory}
 use Rattle.vl_engine_laws.specs.laws.AppendedLaws.{with_more}
 use Rattle.vl_engine_laws.specs.laws.LaidLaws.{memtable_near}
 use Rattle.vl_engine_laws.specs.laws.LaidTables.{tables_are}

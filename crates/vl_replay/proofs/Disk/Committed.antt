@@ -7,18 +7,18 @@ use Rattle.vl_disk.specs.DiskState.{DiskState, appended}
 use Rattle.vl_disk.specs.Faults.{after_calls}
 use Rattle.vl_disk.specs.declared.name.Name.{Name as FileName}
 use Rattle.vl_disk.specs.declared.watched.Watched.{Ghosts}
-use Rattle.vl_engine.specs.Answers.{IsWritable}
+use Rattle.vl_steps.specs.Answers.{IsWritable}
 use Rattle.vl_engine_laws.specs.Carries.{Carries, SameFiles}
 use Rattle.vl_engine_laws.specs.Held.{Holds}
 use Rattle.vl_engine_laws.specs.Represents as engine
-use Rattle.vl_engine.specs.Sees.{asked}
+use Rattle.vl_reads.specs.Sees.{asked}
 use Rattle.vl_engine_laws.specs.Pointed.{layout_logs}
 use Rattle.vl_engine_laws.specs.Shown.{Shown}
 use Rattle.vl_engine_laws.specs.Spared.{at_rest}
 use Rattle.vl_engine_laws.specs.Writing.{StopsWriting, at_append, at_sync, written}
 use Rattle.vl_back.specs.declared.back.Back.{Back}
 use Rattle.vl_engine_laws.specs.declared.kept.Core.{Core}
-use Rattle.vl_engine.specs.declared.txn.Txn.{Txn}
+use Rattle.vl_reads.specs.declared.txn.Txn.{Txn}
 use Rattle.vl_engine_laws.specs.laws.CommitLaws.{commit_base, commit_holds}
 use Rattle.vl_engine_laws.specs.laws.KeptLaws.{begun_kept, table_log, written_elsewhere}
 use Rattle.vl_engine_laws.specs.laws.SparedRulings.{committed_spares}

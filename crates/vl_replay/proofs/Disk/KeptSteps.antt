@@ -10,12 +10,12 @@ use Rattle.vl_disk.specs.declared.name.Name.{Name as FileName}
 use Rattle.vl_disk.specs.declared.name.Name.TheVariants.{Manifest}
 use Rattle.vl_disk.specs.declared.watched.Watched.{Ghosts}
 use Rattle.vl_engine_laws.specs.Carries.{Carries, SameFiles}
-use Rattle.vl_engine.specs.Keeping.{KeepFailed, keep_outcome}
+use Rattle.vl_steps.specs.Keeping.{KeepFailed, keep_outcome}
 use Rattle.vl_engine_laws.specs.Represents as engine
 use Rattle.vl_engine_laws.specs.Shown.{Shown}
 use Rattle.vl_engine_laws.specs.MayStep.{LeavesNumbers}
-use Rattle.vl_engine.specs.declared.fails.KeepFail.{KeepFail}
-use Rattle.vl_engine.specs.declared.fails.KeepFail.TheVariants as unkept
+use Rattle.vl_steps.specs.declared.fails.KeepFail.{KeepFail}
+use Rattle.vl_steps.specs.declared.fails.KeepFail.TheVariants as unkept
 use Rattle.vl_engine_laws.specs.declared.kept.Core.{Core}
 use Rattle.vl_engine_model.specs.Decides.{Answered, Effects, as_before}
 use Rattle.vl_engine_model.specs.Ruling.{Ruling}

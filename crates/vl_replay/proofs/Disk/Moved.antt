@@ -20,7 +20,7 @@ use Rattle.vl_disk.specs.DiskState.{appended}
 use Rattle.vl_disk.specs.Faults.{after_calls}
 use Rattle.vl_disk.specs.declared.name.Name.{Name as FileName}
 use Rattle.vl_disk.specs.declared.watched.Watched.{Ghosts}
-use Rattle.vl_engine.specs.Relocating.{IsMovable}
+use Rattle.vl_steps.specs.Relocating.{IsMovable}
 use Rattle.vl_frame.specs.Runs.{HasFrame}
 use Rattle.vl_engine_model.specs.Decides.{Answered, Effects, Outcome, as_before}
 use Rattle.vl_engine_model.specs.Relocation.{Candidate, Pass, moved_of}

@@ -20,7 +20,7 @@ use Rattle.vl_disk.specs.declared.name.Name.TheVariants.{Table}
 use Rattle.vl_disk.specs.declared.watched.Watched.{Ghosts}
 use Rattle.vl_disk.specs.declared.writer.Writer.{Ghosts as Writers}
 use Rattle.vl_disk.specs.laws.NameMap.{get_inserted_other, get_removed, get_removed_other, same_or_other}
-use Rattle.vl_engine.specs.Sweeping.{RemovesAll, RemovesOne, StopsRemoving, TakesIfLent}
+use Rattle.vl_space.specs.Sweeping.{RemovesAll, RemovesOne, StopsRemoving, TakesIfLent}
 use Rattle.vl_engine_model.specs.Rulings.Sweep.{is_same}
 use Rattle.vl_engine_model.specs.Stock.{is_in}
 use Rattle.vl_engine_model.specs.declared.file_name.FileName.{FileName}

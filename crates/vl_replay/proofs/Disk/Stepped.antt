@@ -19,10 +19,10 @@ use Rattle.vl_engine_laws.specs.Represents as engine
 use Rattle.vl_engine_laws.specs.RotateFacts.{at_hold, at_new_log}
 use Rattle.vl_engine_laws.specs.RotateFacts.{StopsRotating}
 use Rattle.vl_engine_laws.specs.Shown.{Shown}
-use Rattle.vl_engine.specs.Stepping.{StepFailed, StepLeavesDisk, step_outcome}
+use Rattle.vl_steps.specs.Stepping.{StepFailed, StepLeavesDisk, step_outcome}
 use Rattle.vl_engine_laws.specs.MayStep.{LeavesNumbers}
-use Rattle.vl_engine.specs.declared.fails.StepFail.{StepFail}
-use Rattle.vl_engine.specs.declared.fails.StepFail.TheVariants as undone
+use Rattle.vl_steps.specs.declared.fails.StepFail.{StepFail}
+use Rattle.vl_steps.specs.declared.fails.StepFail.TheVariants as undone
 use Rattle.vl_engine_laws.specs.declared.kept.Core.{Core}
 use Rattle.vl_engine_model.specs.Decides.{Answered, Effects, as_before}
 use Rattle.vl_engine_model.specs.Ruling as rulings

@@ -21,14 +21,14 @@ use Rattle.vl_disk.specs.declared.name.Name.TheVariants.{Log, Manifest, Table}
 use Rattle.vl_disk.specs.declared.watched.Watched.{Ghosts}
 use Rattle.vl_disk.specs.declared.writer.Writer.{Ghosts as Writers}
 use Rattle.vl_disk.specs.laws.NameMap.{same_or_other}
-use Rattle.vl_engine.proofs.Sweeps.Freed.{swept_are, swept_count}
-use Rattle.vl_engine.specs.Removing.{IsThere, IsWaiting, Removes, all_retired}
-use Rattle.vl_engine.specs.Sweeping.{KeepsAllBut, SweepCarries, SweepFailed, SweepsAs, gone_before, names_of, ready, sweep_effects}
-use Rattle.vl_engine.specs.Sweeping.{sweep_otherwise, sweep_outcome, up_to}
-use Rattle.vl_engine.specs.declared.fails.SweepFail.{SweepFail}
-use Rattle.vl_engine.specs.declared.fails.SweepFail.TheVariants as unswept
-use Rattle.vl_engine.specs.declared.open.OpenMerge.{OpenMerge}
-use Rattle.vl_engine.specs.declared.open.Removing.{Removing}
+use Rattle.vl_space.specs.laws.Sweeps.Freed.{swept_are, swept_count}
+use Rattle.vl_space.specs.Removing.{IsThere, IsWaiting, Removes, all_retired}
+use Rattle.vl_space.specs.Sweeping.{KeepsAllBut, SweepCarries, SweepFailed, SweepsAs, gone_before, names_of, ready, sweep_effects}
+use Rattle.vl_space.specs.Sweeping.{sweep_otherwise, sweep_outcome, up_to}
+use Rattle.vl_space.specs.declared.fails.SweepFail.{SweepFail}
+use Rattle.vl_space.specs.declared.fails.SweepFail.TheVariants as unswept
+use Rattle.vl_engine_laws.specs.declared.open.OpenMerge.{OpenMerge}
+use Rattle.vl_space.specs.declared.kept.Removing.{Removing}
 use Rattle.vl_engine_model.specs.Decides.{Answered}
 use Rattle.vl_engine_model.specs.Jobs.{lent_numbers, loose}
 use Rattle.vl_engine_model.specs.Ruling.{Ruling}

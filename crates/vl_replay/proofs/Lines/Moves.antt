@@ -5,9 +5,9 @@ use Rattle.std.specs.Global.{Global}
 use Rattle.vl_engine_laws.specs.Carries.{StaysUntold}
 use Rattle.vl_disk.specs.declared.watched.Watched.{Ghosts}
 use Rattle.vl_disk.specs.declared.writer.Writer.{Ghosts as Writers}
-use Rattle.vl_engine.specs.Installing.{numbers_in}
-use Rattle.vl_engine.specs.Lent.{Opens}
-use Rattle.vl_engine.specs.declared.open.OpenMerge.{OpenMerge}
+use Rattle.vl_steps.specs.Installing.{numbers_in}
+use Rattle.vl_engine_laws.specs.Lent.{Opens}
+use Rattle.vl_engine_laws.specs.declared.open.OpenMerge.{OpenMerge}
 use Rattle.vl_engine_model.specs.Relocation.{Candidate, Pass}
 use Rattle.vl_engine_model.specs.Rulings.Relocate as move
 use Rattle.vl_engine_model.specs.Rulings.Relocate.{MoveAnswer, relocate_ruling, with_moves}

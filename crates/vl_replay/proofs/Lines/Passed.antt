@@ -5,8 +5,8 @@ use Rattle.vl_engine_laws.specs.Lasts.{Lasts}
 use Rattle.vl_engine_laws.specs.Pointed.{layout_logs}
 use Rattle.vl_engine_laws.specs.declared.kept.Core.{Core}
 use Rattle.vl_engine_laws.specs.laws.Lasting.{install_lasts, lasts_same}
-use Rattle.vl_engine.specs.Collecting.{Collects}
-use Rattle.vl_engine.specs.declared.open.Collecting.{Collecting}
+use Rattle.vl_space.specs.Collecting.{Collects}
+use Rattle.vl_space.specs.declared.kept.Collecting.{Collecting}
 use Rattle.vl_engine_model.specs.Jobs.{Made}
 use Rattle.vl_engine_model.specs.Levels.{due_from, first_into}
 use Rattle.vl_engine_model.specs.Merging.{outputs}

@@ -10,9 +10,9 @@ use Rattle.vl_disk.specs.declared.name.Name.{Name}
 use Rattle.vl_disk.specs.declared.watched.Watched.{Ghosts}
 use Rattle.vl_disk.specs.declared.writer.Writer.{Ghosts as Writers}
 use Rattle.vl_engine_laws.specs.Carries.{StaysUntold}
-use Rattle.vl_engine.specs.Installing.{IsHandedIn, numbers_in}
+use Rattle.vl_steps.specs.Installing.{IsHandedIn, numbers_in}
 use Rattle.vl_engine.specs.UnderWay.{IsUnderWay}
-use Rattle.vl_engine.specs.declared.open.OpenMerge.{OpenMerge}
+use Rattle.vl_engine_laws.specs.declared.open.OpenMerge.{OpenMerge}
 use Rattle.vl_engine_model.specs.Jobs.{AreDistinct}
 use Rattle.vl_model.specs.Numbers.{has}
 use Rattle.vl_replay.specs.Handed.{CanHandIn, MayHandIn, are_distinct}

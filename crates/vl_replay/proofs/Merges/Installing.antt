@@ -25,22 +25,23 @@ use Rattle.vl_disk.specs.declared.writer.Writer.{Ghosts as Writers}
 use Rattle.vl_disk.specs.laws.NameMap.{get_inserted, get_inserted_other, same_or_other}
 use Rattle.std.specs.FinMap.{get}
 use Rattle.vl_engine_laws.specs.Carries.{Carries}
-use Rattle.vl_engine.specs.Installing.{InstallFailed, InstallLeavesDisk, IsHandedIn, KeepsAllBut, MayInstall}
-use Rattle.vl_engine.specs.Installing.{StopsInstall, StopsSwitching, WritesInstall, at_manifest, at_table}
-use Rattle.vl_engine.specs.Installing.{install_otherwise, numbers_in}
-use Rattle.vl_engine.specs.Lent.{Opens}
-use Rattle.vl_engine.specs.Lent as lending
-use Rattle.vl_engine.specs.Merging.{HasAllMerge, StandsOpen, install_effects, install_outcome, made_numbers}
+use Rattle.vl_steps.specs.Installing.{InstallFailed, InstallLeavesDisk, IsHandedIn, KeepsAllBut, MayInstall}
+use Rattle.vl_steps.specs.Installing.{StopsInstall, StopsSwitching, WritesInstall, at_manifest, at_table}
+use Rattle.vl_steps.specs.Installing.{install_otherwise, numbers_in}
+use Rattle.vl_engine_laws.specs.Lent.{Opens}
+use Rattle.vl_engine_laws.specs.Lent as lending
+use Rattle.vl_steps.specs.Merging.{HasAllMerge, install_effects, install_outcome, made_numbers}
+use Rattle.vl_engine_laws.specs.Lent.{StandsOpen}
 use Rattle.vl_engine_laws.specs.Represents as engine
 use Rattle.vl_engine_laws.specs.Represents.{IsHeld, IsLive}
 use Rattle.vl_engine_laws.specs.Shown.{Shown}
 use Rattle.vl_engine_laws.specs.MayStep.{AreLogFiles, Fits, LeavesNumbers, MayStep}
-use Rattle.vl_engine.specs.Taking.{StopsTaking, Takes, file_in, file_of_table, with_files}
+use Rattle.vl_steps.specs.Taking.{StopsTaking, Takes, file_in, file_of_table, with_files}
 use Rattle.vl_engine.specs.UnderWay.{IsUnderWay}
-use Rattle.vl_engine.specs.declared.fails.InstallFail.{InstallFail}
-use Rattle.vl_engine.specs.declared.fails.InstallFail.TheVariants as uninstalled
+use Rattle.vl_steps.specs.declared.fails.InstallFail.{InstallFail}
+use Rattle.vl_steps.specs.declared.fails.InstallFail.TheVariants as uninstalled
 use Rattle.vl_engine_laws.specs.declared.kept.Core.{Core}
-use Rattle.vl_engine.specs.declared.open.OpenMerge.{OpenMerge}
+use Rattle.vl_engine_laws.specs.declared.open.OpenMerge.{OpenMerge}
 use Rattle.vl_engine_laws.specs.laws.InstallRulings.{GoesOn, install_made_so, install_version}
 use Rattle.vl_engine_model.specs.Decides.{Answered, Decides}
 use Rattle.vl_engine_model.specs.Jobs.{AreLent, Made, lent_numbers, loose, tables_made}

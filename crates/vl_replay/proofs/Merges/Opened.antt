@@ -4,11 +4,12 @@ use Rattle.std.specs.Prelude.{Option, IsTrue}
 use Rattle.vl_compact.specs.declared.job.Job.{Job as TheJob}
 use Rattle.vl_disk.specs.DiskState.{DiskState}
 use Rattle.vl_disk.specs.declared.writer.Writer.{Ghosts as Writers}
-use Rattle.vl_engine.specs.Merging.{FitsReaders, HasMerge, StandsOpen}
+use Rattle.vl_steps.specs.Merging.{FitsReaders, HasMerge}
+use Rattle.vl_engine_laws.specs.Lent.{StandsOpen}
 use Rattle.vl_engine_laws.specs.Represents as engine
 use Rattle.vl_engine_laws.specs.MayStep.{Fits}
 use Rattle.vl_engine_laws.specs.declared.kept.Core.{Core}
-use Rattle.vl_engine.specs.declared.open.OpenMerge.{OpenMerge}
+use Rattle.vl_engine_laws.specs.declared.open.OpenMerge.{OpenMerge}
 use Rattle.vl_engine_model.specs.Ruling.{Ruling, pin_of}
 use Rattle.vl_engine_model.specs.declared.job.Job.{Job}
 use Rattle.vl_version.specs.declared.base.Base.{Base}

@@ -7,7 +7,7 @@ use Rattle.vl_disk.specs.DiskState.{DiskState}
 use Rattle.vl_disk.specs.declared.writer.Writer.{Ghosts as Writers}
 use Rattle.vl_engine_laws.specs.Represents.{IsLive}
 use Rattle.vl_engine_laws.specs.declared.kept.Core.{Core}
-use Rattle.vl_engine.specs.declared.open.OpenMerge.{OpenMerge}
+use Rattle.vl_engine_laws.specs.declared.open.OpenMerge.{OpenMerge}
 use Rattle.vl_engine_model.specs.Jobs.{AreLent, Made, job_ended}
 use Rattle.vl_engine_model.specs.Merging.{kept, merged_entries, outputs}
 use Rattle.vl_engine_model.specs.Ruling.{Ruling, pin_of}

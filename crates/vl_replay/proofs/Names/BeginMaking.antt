@@ -3,13 +3,13 @@ use Rattle.std.proofs.Common.{◌≡◌, ℕ, Bool, true, false, cond, List, [],
 use Rattle.std.specs.Prelude.{◌≤◌, Option, None, Some, Ok, nat_le}
 use Rattle.std.specs.Option.{is_some}
 use Rattle.vl_disk.specs.DiskState.{DiskState}
-use Rattle.vl_engine.specs.Past.{beginning}
-use Rattle.vl_engine_laws.specs.LiesOver.{IsInMemory}
-use Rattle.vl_engine.specs.Sees.{IsNew, Sees, SeesAlone, asked_view}
+use Rattle.vl_reads.specs.Past.{beginning}
+use Rattle.vl_version.specs.LiesOver.{IsInMemory}
+use Rattle.vl_reads.specs.Sees.{IsNew, Sees, SeesAlone, asked_view}
 use Rattle.vl_back.specs.declared.back.Back.{Back}
 use Rattle.vl_engine_laws.specs.declared.kept.Core.{Core}
-use Rattle.vl_engine.specs.declared.txn.Txn.{Txn}
-use Rattle.vl_engine.specs.declared.view.View.{View as EngineView}
+use Rattle.vl_reads.specs.declared.txn.Txn.{Txn}
+use Rattle.vl_reads.specs.declared.view.View.{View as EngineView}
 use Rattle.vl_engine_model.specs.AtAnswer.{Beginning, beginning_of}
 use Rattle.vl_engine_model.specs.Decides.{Answered, Decides, as_before, no_effects}
 use Rattle.vl_engine_model.specs.Ruling.{Ruling, ended, leaving, pin_of}

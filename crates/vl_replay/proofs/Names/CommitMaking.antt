@@ -4,13 +4,13 @@ use Rattle.std.specs.Prelude.{Option, None, Some, Ok, Err, nat_le}
 use Rattle.std.specs.FinMap.{from_sorted}
 use Rattle.vl_disk.specs.DiskState.{DiskState}
 use Rattle.vl_disk.specs.declared.name.Name.{Name as FileNamed}
-use Rattle.vl_engine.specs.Answers.{CommitFailed, commit_outcome, handed_back}
-use Rattle.vl_engine.specs.Sees.{asked}
-use Rattle.vl_engine.specs.declared.engine.Done.{Done}
-use Rattle.vl_engine.specs.declared.fails.CommitFail.{CommitFail}
-use Rattle.vl_engine.specs.declared.fails.CommitFail.TheVariants as fails
+use Rattle.vl_steps.specs.Answers.{CommitFailed, commit_outcome, handed_back}
+use Rattle.vl_reads.specs.Sees.{asked}
+use Rattle.vl_steps.specs.declared.done.Done.{Done}
+use Rattle.vl_steps.specs.declared.fails.CommitFail.{CommitFail}
+use Rattle.vl_steps.specs.declared.fails.CommitFail.TheVariants as fails
 use Rattle.vl_engine_laws.specs.declared.kept.Core.{Core}
-use Rattle.vl_engine.specs.declared.txn.Txn.{Txn}
+use Rattle.vl_reads.specs.declared.txn.Txn.{Txn}
 use Rattle.vl_engine_model.specs.AtAnswer.{Beginning}
 use Rattle.vl_engine_model.specs.Decides.{Answered, Decides, Effects, Otherwise, Outcome, as_before}
 use Rattle.vl_engine_model.specs.Ruling.{Ruling, ended, leaving, logged}

@@ -2,16 +2,16 @@
 use Rattle.std.proofs.Common.{◌≡◌, ℕ, List, [], ◌∷◌, ◌++◌, length, refl, ap, sym, ◌∙◌, subst, arith}
 use Rattle.std.specs.Prelude.{Option, None, Some}
 use Rattle.std.specs.FinMap.{empty, entries, len-empty, len-entries}
-use Rattle.vl_engine.specs.Past.{beginning}
-use Rattle.vl_engine_laws.specs.LiesOver.{IsInMemory}
+use Rattle.vl_reads.specs.Past.{beginning}
+use Rattle.vl_version.specs.LiesOver.{IsInMemory}
 use Rattle.vl_engine_laws.specs.Represents.{IsLive}
-use Rattle.vl_engine.specs.Sees.{IsNew, Sees, SeesAlone, ShowsAt}
-use Rattle.vl_engine.specs.declared.past.Past.{Past}
-use Rattle.vl_engine.specs.declared.txn.Txn.{Txn}
-use Rattle.vl_engine.specs.declared.view.View.{View as EngineView}
-use Rattle.vl_engine.specs.laws.PastLaws.{past_later}
+use Rattle.vl_reads.specs.Sees.{IsNew, Sees, SeesAlone, ShowsAt}
+use Rattle.vl_reads.specs.declared.past.Past.{Past}
+use Rattle.vl_reads.specs.declared.txn.Txn.{Txn}
+use Rattle.vl_reads.specs.declared.view.View.{View as EngineView}
+use Rattle.vl_reads.specs.laws.PastLaws.{past_later}
 use Rattle.vl_engine_laws.specs.laws.LiveLaws.{begun_lives, begun_was_free, lives_begun, lives_ended}
-use Rattle.vl_engine.specs.laws.SeesLaws.{shows_at_later}
+use Rattle.vl_reads.specs.laws.SeesLaws.{shows_at_later}
 use Rattle.vl_engine_model.specs.AtAnswer.{Beginning}
 use Rattle.vl_engine_model_laws.specs.Live.{IsLivedIn}
 use Rattle.vl_engine_model.specs.Ruling.{ended}

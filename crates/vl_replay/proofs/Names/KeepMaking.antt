@@ -4,11 +4,11 @@ use Rattle.std.specs.Prelude.{Option, None, Some, Ok, Err, Result, OnOk, nat_lt}
 use Rattle.std.specs.Bool.{⊤}
 use Rattle.vl_disk.specs.DiskState.{DiskState}
 use Rattle.vl_disk.specs.Faults.{HasCause}
-use Rattle.vl_engine.specs.Keeping.{KeepFailed, keep_outcome}
+use Rattle.vl_steps.specs.Keeping.{KeepFailed, keep_outcome}
 use Rattle.vl_engine_laws.specs.Represents as engine
 use Rattle.vl_engine_laws.specs.Represents.{IsLive}
-use Rattle.vl_engine.specs.declared.fails.KeepFail.{KeepFail}
-use Rattle.vl_engine.specs.declared.fails.KeepFail.TheVariants as unkept
+use Rattle.vl_steps.specs.declared.fails.KeepFail.{KeepFail}
+use Rattle.vl_steps.specs.declared.fails.KeepFail.TheVariants as unkept
 use Rattle.vl_engine_laws.specs.declared.kept.Core.{Core}
 use Rattle.vl_engine_model.specs.Decides.{Decides, Effects, Otherwise}
 use Rattle.vl_engine_model.specs.Ruling.{Ruling, leaving}

@@ -3,14 +3,14 @@ use Rattle.std.proofs.Common.{◌≡◌, ℕ, List, [], ◌∷◌, ◌++◌, ref
 use Rattle.std.specs.Prelude.{Option, None, Some, Ok, Err, Result, IfOk, OnOk}
 use Rattle.std.specs.Bool.{⊤}
 use Rattle.vl_disk.specs.DiskState.{DiskState}
-use Rattle.vl_engine.specs.Past.{beginning}
-use Rattle.vl_engine.specs.Reading.{NotesNothing, OnlyReads, OnlyWrites}
-use Rattle.vl_engine_laws.specs.LiesOver.{IsInMemory}
+use Rattle.vl_reads.specs.Past.{beginning}
+use Rattle.vl_reads.specs.Reading.{NotesNothing, OnlyReads, OnlyWrites}
+use Rattle.vl_version.specs.LiesOver.{IsInMemory}
 use Rattle.vl_engine_laws.specs.Represents.{IsLive}
-use Rattle.vl_engine.specs.Sees.{Sees, SeesAlone, asked, asked_view}
+use Rattle.vl_reads.specs.Sees.{Sees, SeesAlone, asked, asked_view}
 use Rattle.vl_engine_laws.specs.declared.kept.Core.{Core}
-use Rattle.vl_engine.specs.declared.txn.Txn.{Txn}
-use Rattle.vl_engine.specs.declared.view.View.{View as EngineView}
+use Rattle.vl_reads.specs.declared.txn.Txn.{Txn}
+use Rattle.vl_reads.specs.declared.view.View.{View as EngineView}
 use Rattle.vl_engine_model.specs.AtAnswer.{Beginning}
 use Rattle.vl_engine_model.specs.Rulings.Commit.{Transaction as ATxn}
 use Rattle.vl_engine_model.specs.Rulings.View.{View as LayoutView}

@@ -3,14 +3,14 @@ use Rattle.std.proofs.Common.{◌≡◌, ℕ, false, List, [], ◌∷◌, ◌++�
 use Rattle.std.specs.Prelude.{Option, Some, Ok, Err, Result}
 use Rattle.vl_disk.specs.DiskState.{DiskState}
 use Rattle.vl_disk.specs.Faults.{HasCause}
-use Rattle.vl_engine.specs.Past.{AtFailed, IsAnsweredAt, beginning}
-use Rattle.vl_engine.specs.Reading.{NotesNothing, OnlyReads}
-use Rattle.vl_engine.specs.Sees.{Sees, SeesAlone}
-use Rattle.vl_engine.specs.declared.fails.AtFail.{AtFail}
-use Rattle.vl_engine.specs.declared.fails.AtFail.TheVariants as gone
+use Rattle.vl_reads.specs.Past.{AtFailed, IsAnsweredAt, beginning}
+use Rattle.vl_reads.specs.Reading.{NotesNothing, OnlyReads}
+use Rattle.vl_reads.specs.Sees.{Sees, SeesAlone}
+use Rattle.vl_reads.specs.declared.fails.AtFail.{AtFail}
+use Rattle.vl_reads.specs.declared.fails.AtFail.TheVariants as gone
 use Rattle.vl_engine_laws.specs.declared.kept.Core.{Core}
-use Rattle.vl_engine.specs.declared.txn.Txn.{Txn}
-use Rattle.vl_engine.specs.declared.view.View.{View as EngineView}
+use Rattle.vl_reads.specs.declared.txn.Txn.{Txn}
+use Rattle.vl_reads.specs.declared.view.View.{View as EngineView}
 use Rattle.vl_engine_model.specs.AtAnswer.{AtAnswer, Beginning, at_answer, at_answer_by}
 use Rattle.vl_engine_model.specs.Rulings.Commit.{Transaction as ATxn}
 use Rattle.vl_engine_model.specs.Store.Commits.{at_answer_in, value_in}

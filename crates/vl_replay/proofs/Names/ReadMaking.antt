@@ -4,14 +4,14 @@ use Rattle.std.proofs.Common.{sym, ◌∙◌, subst, arith}
 use Rattle.std.specs.Prelude.{Option, None, Some, Ok, Err, Result, IfOk, OnOk, OnErr, nat_le}
 use Rattle.vl_disk.specs.DiskState.{DiskState}
 use Rattle.vl_disk.specs.Faults.{HasCause}
-use Rattle.vl_engine.specs.Reading.{IsRefusedBy, IsSound as IsSoundRead, NotesNothing, OnlyNotes, OnlyReads}
-use Rattle.vl_engine.specs.Reading.{ReadFailed, either, value_under}
-use Rattle.vl_engine.specs.Sees.{Sees, SeesAlone}
-use Rattle.vl_engine.specs.declared.fails.ReadFail.{ReadFail}
-use Rattle.vl_engine.specs.declared.fails.ReadFail.TheVariants as unread
+use Rattle.vl_reads.specs.Reading.{IsRefusedBy, IsSound as IsSoundRead, NotesNothing, OnlyNotes, OnlyReads}
+use Rattle.vl_reads.specs.Reading.{ReadFailed, either, value_under}
+use Rattle.vl_reads.specs.Sees.{Sees, SeesAlone}
+use Rattle.vl_reads.specs.declared.fails.ReadFail.{ReadFail}
+use Rattle.vl_reads.specs.declared.fails.ReadFail.TheVariants as unread
 use Rattle.vl_engine_laws.specs.declared.kept.Core.{Core}
-use Rattle.vl_engine.specs.declared.txn.Txn.{Txn}
-use Rattle.vl_engine.specs.declared.view.View.{View as EngineView}
+use Rattle.vl_reads.specs.declared.txn.Txn.{Txn}
+use Rattle.vl_reads.specs.declared.view.View.{View as EngineView}
 use Rattle.vl_engine_model.specs.Store.Commits.{value_in}
 use Rattle.vl_engine_model.specs.Store.Lines as store_lines
 use Rattle.vl_engine_model.specs.Store.Lines.{Name}

@@ -3,7 +3,7 @@ use Rattle.std.proofs.Common.{◌≡◌, ℕ, List, [], ◌∷◌, ◌++◌, sym
 use Rattle.std.specs.Prelude.{Option, None, Some, Ok, Result}
 use Rattle.vl_disk.specs.DiskState.{DiskState}
 use Rattle.vl_engine_laws.specs.declared.kept.Core.{Core}
-use Rattle.vl_engine.specs.declared.view.View.{View as EngineView}
+use Rattle.vl_reads.specs.declared.view.View.{View as EngineView}
 use Rattle.vl_engine_model.specs.AtAnswer.{Beginning}
 use Rattle.vl_engine_model.specs.Rulings.View.{View as LayoutView}
 use Rattle.vl_engine_model.specs.Store.Lines as store_lines

@@ -3,13 +3,13 @@ use Rattle.std.proofs.Common.{◌≡◌, ℕ, Bool, true, false, cond, ◌&&◌,
 use Rattle.std.specs.Prelude.{Option, None, Some, Ok, Err, Result, IfOk, OnErr, nat_le}
 use Rattle.std.specs.FinMap.{empty, from_sorted}
 use Rattle.vl_disk.specs.DiskState.{DiskState}
-use Rattle.vl_engine.specs.Reading.{IsRefusedBy, NotesNothing, OnlyNotes, OnlyReads, refused_bounds, rows_under}
-use Rattle.vl_engine.specs.Sees.{Sees, SeesAlone}
-use Rattle.vl_engine.specs.declared.fails.ReadFail.{ReadFail}
-use Rattle.vl_engine.specs.declared.fails.ReadFail.TheVariants as unread
+use Rattle.vl_reads.specs.Reading.{IsRefusedBy, NotesNothing, OnlyNotes, OnlyReads, refused_bounds, rows_under}
+use Rattle.vl_reads.specs.Sees.{Sees, SeesAlone}
+use Rattle.vl_reads.specs.declared.fails.ReadFail.{ReadFail}
+use Rattle.vl_reads.specs.declared.fails.ReadFail.TheVariants as unread
 use Rattle.vl_engine_laws.specs.declared.kept.Core.{Core}
-use Rattle.vl_engine.specs.declared.txn.Txn.{Txn}
-use Rattle.vl_engine.specs.declared.view.View.{View as EngineView}
+use Rattle.vl_reads.specs.declared.txn.Txn.{Txn}
+use Rattle.vl_reads.specs.declared.view.View.{View as EngineView}
 use Rattle.vl_engine_model.specs.Store.Lines as store_lines
 use Rattle.vl_engine_model.specs.Store.Lines.{Name}
 use Rattle.vl_engine_model.specs.Store.Reading.{rows_told, scan_by, scanned_rows}

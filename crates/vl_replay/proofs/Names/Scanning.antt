@@ -2,12 +2,12 @@
 use Rattle.std.proofs.Common.{◌≡◌, ℕ, true, ◌&&◌, List, [], ◌∷◌, ◌++◌, length, refl, ap, sym, ◌∙◌, subst}
 use Rattle.std.specs.Prelude.{Option, Some, nat_le}
 use Rattle.std.specs.FinMap.{entries, entries-from_sorted, entries_sorted, from_sorted, same_entries_map}
-use Rattle.vl_engine.specs.Past.{beginning}
-use Rattle.vl_engine.specs.Reading.{OnlyNotes, rows_under}
-use Rattle.vl_engine_laws.specs.LiesOver.{IsInMemory}
+use Rattle.vl_reads.specs.Past.{beginning}
+use Rattle.vl_reads.specs.Reading.{OnlyNotes, rows_under}
+use Rattle.vl_version.specs.LiesOver.{IsInMemory}
 use Rattle.vl_engine_laws.specs.Represents.{IsLive}
-use Rattle.vl_engine.specs.Sees.{Sees, asked}
-use Rattle.vl_engine.specs.declared.txn.Txn.{Txn}
+use Rattle.vl_reads.specs.Sees.{Sees, asked}
+use Rattle.vl_reads.specs.declared.txn.Txn.{Txn}
 use Rattle.vl_engine_model.specs.AtAnswer.{Beginning}
 use Rattle.vl_engine_model.specs.Rulings.Commit.{Transaction as ATxn}
 use Rattle.vl_engine_model.specs.Store.Commits.{AreProper, history_in}

@@ -11,9 +11,9 @@ use Rattle.vl_disk.specs.DiskState.{DiskState}
 use Rattle.vl_disk.specs.Faults.{HasCause}
 use Rattle.vl_engine_laws.specs.Represents as engine
 use Rattle.vl_engine_laws.specs.Represents.{IsLive}
-use Rattle.vl_engine.specs.Stepping.{StepFailed, step_outcome}
-use Rattle.vl_engine.specs.declared.fails.StepFail.{StepFail}
-use Rattle.vl_engine.specs.declared.fails.StepFail.TheVariants as undone
+use Rattle.vl_steps.specs.Stepping.{StepFailed, step_outcome}
+use Rattle.vl_steps.specs.declared.fails.StepFail.{StepFail}
+use Rattle.vl_steps.specs.declared.fails.StepFail.TheVariants as undone
 use Rattle.vl_engine_laws.specs.declared.kept.Core.{Core}
 use Rattle.vl_engine_model.specs.Decides.{Decides, Effects, Otherwise}
 use Rattle.vl_engine_model.specs.Levels.{in_front}

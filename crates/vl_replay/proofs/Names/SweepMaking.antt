@@ -3,11 +3,11 @@ use Rattle.std.proofs.Common.{◌≡◌, ◌≤◌, ℕ, List, refl, ap, sym, �
 use Rattle.std.specs.Prelude.{Option, None, Some, Ok, Err, Result, OnOk}
 use Rattle.vl_disk.specs.DiskState.{DiskState}
 use Rattle.vl_disk.specs.Faults.{HasCause}
-use Rattle.vl_engine.specs.Sweeping.{SweepFailed, sweep_outcome}
+use Rattle.vl_space.specs.Sweeping.{SweepFailed, sweep_outcome}
 use Rattle.vl_engine_laws.specs.Represents as engine
 use Rattle.vl_engine_laws.specs.Represents.{IsLive}
-use Rattle.vl_engine.specs.declared.fails.SweepFail.{SweepFail}
-use Rattle.vl_engine.specs.declared.fails.SweepFail.TheVariants as unswept
+use Rattle.vl_space.specs.declared.fails.SweepFail.{SweepFail}
+use Rattle.vl_space.specs.declared.fails.SweepFail.TheVariants as unswept
 use Rattle.vl_engine_laws.specs.declared.kept.Core.{Core}
 use Rattle.vl_engine_model.specs.Decides.{Decides, Effects, Otherwise}
 use Rattle.vl_engine_model.specs.Ruling.{Ruling}

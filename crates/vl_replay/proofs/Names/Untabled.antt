@@ -9,7 +9,7 @@ use Rattle.std.specs.Ordering.{eq_by_cmp, nat_cmp}
 use Rattle.vl_engine_model.specs.Rising.{put_by}
 use Rattle.vl_engine_model.specs.Ruling.{ended, pin_of, retired_at}
 use Rattle.vl_engine_model.specs.Rulings.Begin.{begun}
-use Rattle.vl_engine.proofs.Sweeps.Freed.{left_over}
+use Rattle.vl_space.specs.laws.Sweeps.Freed.{left_over}
 use Rattle.vl_engine_model.specs.Rulings.Sweep.{is_held, job_pin, pass_pin, pins, swept, without_files}
 use Rattle.vl_engine_model.specs.Sources.{tables}
 use Rattle.vl_engine_model.specs.Stock.{AreOnce, IsPinned, files_of}

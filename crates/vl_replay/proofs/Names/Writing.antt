@@ -6,12 +6,12 @@ use Rattle.std.specs.Bool.{⊤}
 use Rattle.std.specs.FinMap.{entries, entries-insert, insert, len-entries, put}
 use Rattle.std.specs.Cmp.Lexicographic.{nat_list_cmp_total}
 use Rattle.std.proofs.lemmas.Bool.Decides.{nat_tests}
-use Rattle.vl_engine.specs.Past.{beginning}
-use Rattle.vl_engine.specs.Reading.{OnlyWrites}
-use Rattle.vl_engine_laws.specs.LiesOver.{IsInMemory}
+use Rattle.vl_reads.specs.Past.{beginning}
+use Rattle.vl_reads.specs.Reading.{OnlyWrites}
+use Rattle.vl_version.specs.LiesOver.{IsInMemory}
 use Rattle.vl_engine_laws.specs.Represents.{IsLive}
-use Rattle.vl_engine.specs.Sees.{Sees, asked}
-use Rattle.vl_engine.specs.declared.txn.Txn.{Txn}
+use Rattle.vl_reads.specs.Sees.{Sees, asked}
+use Rattle.vl_reads.specs.declared.txn.Txn.{Txn}
 use Rattle.vl_engine_model.specs.AtAnswer.{Beginning}
 use Rattle.vl_engine_model.specs.Rulings.Commit.{Transaction as ATxn}
 use Rattle.vl_engine_model.specs.Store.Commits.{Changes, history_in}

@@ -11,8 +11,8 @@ use Rattle.vl_engine_laws.specs.Lasts.{Lasts}
 use Rattle.vl_engine_laws.specs.MoveFacts.{AreThere}
 use Rattle.vl_engine_laws.specs.declared.kept.Core.{Core}
 use Rattle.vl_disk.specs.DiskState.{DiskState}
-use Rattle.vl_engine.specs.Collecting.{GoesOver}
-use Rattle.vl_engine.specs.declared.open.Collecting.{Collecting}
+use Rattle.vl_space.specs.Collecting.{GoesOver}
+use Rattle.vl_space.specs.declared.kept.Collecting.{Collecting}
 use Rattle.vl_engine_model.specs.Relocation.{Candidate, Pass, next_batch}
 use Rattle.vl_engine_model.specs.Shown.{IsThere}
 use Rattle.vl_engine_model.specs.Shows.{AreUpTo}

@@ -10,11 +10,11 @@ use Rattle.vl_engine_laws.specs.declared.kept.Core.{Core}
 use Rattle.vl_engine_laws.specs.laws.Lasting.{lasts_same}
 use Rattle.vl_engine_laws.specs.laws.RelocateRulings.{history_is}
 use Rattle.vl_disk.specs.DiskState.{DiskState}
-use Rattle.vl_engine.specs.Collecting.{FitsLooks, GoesOver}
-use Rattle.vl_engine.specs.Lent.{Opens}
-use Rattle.vl_engine.specs.Merging.{StandsOpen}
-use Rattle.vl_engine.specs.declared.open.Collecting.{Collecting}
-use Rattle.vl_engine.specs.declared.open.OpenMerge.{OpenMerge}
+use Rattle.vl_space.specs.Collecting.{FitsLooks, GoesOver}
+use Rattle.vl_engine_laws.specs.Lent.{Opens}
+use Rattle.vl_engine_laws.specs.Lent.{StandsOpen}
+use Rattle.vl_space.specs.declared.kept.Collecting.{Collecting}
+use Rattle.vl_engine_laws.specs.declared.open.OpenMerge.{OpenMerge}
 use Rattle.vl_engine_model.specs.Decides.{Answered, Decides, Effects, Otherwise, Outcome}
 use Rattle.vl_engine_model.specs.Relocation.{Candidate, Pass, moved_of}
 use Rattle.vl_engine_model.specs.Ruling.{Ruling, has_no_version, leaving}

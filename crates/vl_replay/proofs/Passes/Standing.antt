@@ -15,8 +15,8 @@ use Rattle.vl_engine_laws.specs.laws.Lasting.{lasts_same}
 use Rattle.vl_disk.specs.DiskState.{DiskState}
 use Rattle.vl_disk.specs.Faults.{after_calls}
 use Rattle.vl_disk.specs.declared.watched.Watched.{Ghosts}
-use Rattle.vl_engine.specs.Collecting.{Collects, Tallies}
-use Rattle.vl_engine.specs.declared.open.Collecting.{Collecting}
+use Rattle.vl_space.specs.Collecting.{Collects, Tallies}
+use Rattle.vl_space.specs.declared.kept.Collecting.{Collecting}
 use Rattle.vl_engine_model.specs.Sources.{rising, tables}
 use Rattle.vl_engine_model.specs.Store.Commits.{history_in}
 use Rattle.vl_engine_model.specs.Store.Lines.{Name}

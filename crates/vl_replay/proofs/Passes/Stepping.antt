@@ -3,11 +3,11 @@ use Rattle.std.proofs.Common.{ℕ, List, refl}
 use Rattle.std.specs.Prelude.{Option, None, Some, Result, Ok, Err, OnOk}
 use Rattle.vl_engine_laws.specs.Lasts.{Lasts}
 use Rattle.vl_engine_laws.specs.declared.kept.Core.{Core}
-use Rattle.vl_engine.specs.Collecting.{Collects}
-use Rattle.vl_engine.specs.Stepping.{step_outcome}
-use Rattle.vl_engine.specs.declared.open.Collecting.{Collecting}
-use Rattle.vl_engine.specs.declared.fails.StepFail.{StepFail}
-use Rattle.vl_engine.specs.declared.fails.StepFail.TheVariants as undone
+use Rattle.vl_space.specs.Collecting.{Collects}
+use Rattle.vl_steps.specs.Stepping.{step_outcome}
+use Rattle.vl_space.specs.declared.kept.Collecting.{Collecting}
+use Rattle.vl_steps.specs.declared.fails.StepFail.{StepFail}
+use Rattle.vl_steps.specs.declared.fails.StepFail.TheVariants as undone
 use Rattle.vl_engine_model.specs.Decides.{Decides, Effects, Otherwise}
 use Rattle.vl_engine_model.specs.Ruling.{Ruling, StepAnswer}
 use Rattle.vl_engine_model.specs.Ruling as rulings

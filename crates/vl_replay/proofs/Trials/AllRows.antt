@@ -15,7 +15,7 @@ use Rattle.std.specs.Ordering.{is_lt, ordering_reverse}
 use Rattle.std.specs.declared.cmp.Ordering.{Ordering}
 use Rattle.std.specs.declared.cmp.Ordering.TheVariants.{Less, Equal, Greater}
 use Rattle.std.proofs.lemmas.Cmp.{tied_itself}
-use Rattle.vl_engine.specs.Reading.{rows_under}
+use Rattle.vl_reads.specs.Reading.{rows_under}
 use Rattle.vl_model.specs.History.{History, contents_at}
 use Rattle.vl_model.specs.Keys.{Row, Writes, key_cmp}
 use Rattle.vl_model.specs.Reads.{is_within, rows_written}

@@ -5,7 +5,7 @@ ghost use Rattle.std.specs.Str.{bytes_eq};
 ghost use Rattle.vl_engine_laws.specs.Carries.{StaysUntold};
 ghost use Rattle.vl_engine_laws.specs.Shown.{Shown};
 ghost use Rattle.vl_disk.specs.Faults.{HasCause};
-ghost use Rattle.vl_engine.specs.Lent.{Opens};
+ghost use Rattle.vl_engine_laws.specs.Lent.{Opens};
 ghost use Rattle.vl_disk.specs.declared.name.Name.{Name};
 ghost use Rattle.vl_disk.specs.declared.name.Name.TheVariants as names;
 ghost use Rattle.vl_engine_model.specs.Store.Dispatch.{batch_by, drop_by, move_by, pick_as, step_of};

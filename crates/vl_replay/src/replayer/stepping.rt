@@ -5,7 +5,7 @@ ghost use Rattle.vl_disk.specs.declared.name.Name.{Name};
 ghost use Rattle.vl_disk.specs.declared.name.Name.TheVariants as names;
 ghost use Rattle.vl_engine_laws.specs.Carries.{StaysUntold};
 ghost use Rattle.vl_engine_laws.specs.Shown.{Shown};
-ghost use Rattle.vl_engine.specs.Collecting.{Collects};
+ghost use Rattle.vl_space.specs.Collecting.{Collects};
 ghost use Rattle.vl_engine_model.specs.Rulings.Flush.{flush_ruling};
 ghost use Rattle.vl_engine_model.specs.Rulings.Keep.{keep_ruling};
 ghost use Rattle.vl_engine_model.specs.Rulings.Rotate.{rotate_ruling};

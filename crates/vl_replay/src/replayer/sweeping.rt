@@ -5,7 +5,7 @@ ghost use Rattle.vl_engine_laws.specs.Represents.{file_of};
 ghost use Rattle.vl_engine_laws.specs.Shown.{Shown};
 ghost use Rattle.vl_disk.specs.Faults.{HasCause};
 ghost use Rattle.vl_disk.specs.declared.name.Name.{Name};
-ghost use Rattle.vl_engine.specs.Collecting.{Collects};
+ghost use Rattle.vl_space.specs.Collecting.{Collects};
 ghost use Rattle.vl_engine_model.specs.Rulings.Sweep.{sweep_ruling, swept};
 ghost use Rattle.vl_engine_model.specs.Stock.{is_in};
 ghost use Rattle.vl_engine_model.specs.Store.Dispatch.{sweep_by};

@@ -1,7 +1,7 @@
 //! Writes through a name.
 ghost use Rattle.std.specs.Prelude.{◌≡◌, List};
-ghost use Rattle.vl_engine.specs.Reading.{OnlyWrites};
-ghost use Rattle.vl_engine.specs.Sees.{Sees};
+ghost use Rattle.vl_reads.specs.Reading.{OnlyWrites};
+ghost use Rattle.vl_reads.specs.Sees.{Sees};
 ghost use Rattle.vl_engine_model.specs.Store.Reading.{write_by};
 ghost use Rattle.vl_engine_model.specs.Store.Things.{thing_of};
 ghost use Rattle.vl_model.specs.History.{History};

@@ -175,8 +175,8 @@ fn mark_of<H: HeldFile, R: Reader<Held = H>>(
     }
 }
 
-// Whether a table's number is one of these.
-fn is_input<H: HeldFile>(inputs: &[u32], table: &Table<H>) -> bool
+/// Whether a table's number is one of these.
+pub fn is_input<H: HeldFile>(inputs: &[u32], table: &Table<H>) -> bool
     ensures { result ≡ is_input inputs.now table.now }
 {
     let number = table.shape().number;

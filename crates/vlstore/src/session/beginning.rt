@@ -1,7 +1,7 @@
 ghost use Rattle.std.specs.Prelude.{◌≡◌, true, [], IfOk, is_some};
 ghost use Rattle.lru.specs.LruCache.{lru_cache};
-ghost use Rattle.vl_engine.specs.Answers.{begin_outcome, view_outcome};
-ghost use Rattle.vl_engine.specs.Sees.{IsNew, Sees, SeesAlone, asked, asked_view};
+ghost use Rattle.vl_steps.specs.Answers.{begin_outcome, view_outcome};
+ghost use Rattle.vl_reads.specs.Sees.{IsNew, Sees, SeesAlone, asked, asked_view};
 ghost use Rattle.vl_engine_model.specs.Decides.{Answered};
 ghost use Rattle.vl_engine_model.specs.Rulings.Begin.{begin_ruling};
 ghost use Rattle.vl_engine_model.specs.Rulings.Forget.{forget_ruling};

@@ -1,5 +1,5 @@
 ghost use Rattle.std.specs.Prelude.{◌≡◌, IfOk, OnOk, true};
-ghost use Rattle.vl_engine.specs.Merging.{FitsReaders};
+ghost use Rattle.vl_steps.specs.Merging.{FitsReaders};
 ghost use Rattle.vl_engine_model.specs.declared.job.Job as laid_job;
 ghost use Rattle.vlstore.specs.Handing.{IfHandedBack, IsHandedBack, IsHandedInto, IsUnderWayIn};
 ghost use Rattle.vlstore.specs.Knowing.{GoesOn, IsOwnJob};

@@ -1,8 +1,8 @@
 ghost use Rattle.std.specs.Prelude.{◌≡◌, ℕ, is_some, true, List, Some};
 ghost use Rattle.std.specs.FinMap.{entries};
-ghost use Rattle.vl_engine.specs.Answers.{commit_outcome, handed_back};
-ghost use Rattle.vl_engine.specs.Sees.{asked};
-ghost use Rattle.vl_engine.specs.declared.txn.Txn.{Txn};
+ghost use Rattle.vl_steps.specs.Answers.{commit_outcome, handed_back};
+ghost use Rattle.vl_reads.specs.Sees.{asked};
+ghost use Rattle.vl_reads.specs.declared.txn.Txn.{Txn};
 ghost use Rattle.vl_engine_model.specs.Rulings.Commit.{commit_ruling};
 ghost use Rattle.vl_model.specs.Notes.{AreNotesOf};
 ghost use Rattle.vl_model.specs.Reads.{Read};

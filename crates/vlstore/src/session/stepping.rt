@@ -1,5 +1,5 @@
 ghost use Rattle.std.specs.Prelude.{◌≡◌, is_some, true};
-ghost use Rattle.vl_engine.specs.Stepping.{step_outcome};
+ghost use Rattle.vl_steps.specs.Stepping.{step_outcome};
 ghost use Rattle.vl_engine_model.specs.Rulings.Flush.{flush_ruling};
 ghost use Rattle.vl_engine_model.specs.Rulings.Rotate.{rotate_ruling};
 ghost use Rattle.vl_engine_model.specs.declared.layout.Layout.{Layout};

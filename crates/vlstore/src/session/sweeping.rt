@@ -1,5 +1,5 @@
 ghost use Rattle.std.specs.Prelude.{◌≡◌, ℕ, is_some, true};
-ghost use Rattle.vl_engine.specs.Sweeping.{sweep_outcome};
+ghost use Rattle.vl_space.specs.Sweeping.{sweep_outcome};
 ghost use Rattle.vl_engine_model.specs.Rulings.Sweep.{sweep_ruling};
 ghost use Rattle.vl_engine_model.specs.declared.layout.Layout.{Layout};
 ghost use Rattle.vl_engine_model.specs.declared.lock_history.LockStep.{LockStep};

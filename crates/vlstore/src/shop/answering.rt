@@ -1,8 +1,8 @@
 //! Answers of calls that can't fail, as a shop gives them.
 ghost use Rattle.std.specs.Prelude.{◌≡◌, IsOk, Ok, Option, false};
 ghost use Rattle.vl_drive.specs.Answers as drive;
-ghost use Rattle.vl_engine.specs.Answers.{begin_outcome, commit_outcome, handed_back};
-ghost use Rattle.vl_engine.specs.declared.txn.Txn.{Txn};
+ghost use Rattle.vl_steps.specs.Answers.{begin_outcome, commit_outcome, handed_back};
+ghost use Rattle.vl_reads.specs.declared.txn.Txn.{Txn};
 ghost use Rattle.vl_model.specs.Keys.{Stored};
 ghost use Rattle.vlstore.specs.Shops.{IsFaultyCommit, IsFaultyStep, IsFaultySweep, IsOnlyWant, IsOnlyWantOfSet};
 

@@ -5,7 +5,7 @@ ghost use Rattle.vl_disk.specs.declared.read_fault.ReadFault.TheVariants as faul
 ghost use Rattle.vl_drive.specs.Answers as drive;
 ghost use Rattle.vl_drive.specs.Knowing.{GoesAside};
 ghost use Rattle.vl_drive.specs.declared.fails.StepFail.TheVariants as fails;
-ghost use Rattle.vl_engine.specs.Collecting.{FitsLooks, GoesOver};
+ghost use Rattle.vl_space.specs.Collecting.{FitsLooks, GoesOver};
 ghost use Rattle.vl_engine_model.specs.Relocation as layout;
 ghost use Rattle.vlstore.specs.Handing.{HasLasted};
 ghost use Rattle.vlstore.specs.Knowing.{GoesOn};

@@ -3,7 +3,7 @@ ghost use Rattle.std.specs.Prelude.{◌≡◌, [], List, Some, IfOk, is_some, le
 ghost use Rattle.vl_disk.specs.DiskState.{empty_disk};
 ghost use Rattle.vl_drive.specs.Driven.{IsClosed};
 ghost use Rattle.vl_drive.specs.Stores as drive;
-ghost use Rattle.vl_engine.specs.Sees.{SeesAlone};
+ghost use Rattle.vl_reads.specs.Sees.{SeesAlone};
 ghost use Rattle.vl_engine_model.specs.declared.lock_history.LockEntry.{LockEntry};
 ghost use Rattle.vl_model.specs.History.{last_number};
 ghost use Rattle.vlstore.specs.Lists.{history_by};

@@ -31,7 +31,7 @@ impl Shops for SureStore {
     ghost use Rattle.std.specs.Prelude.{◌≡◌, List, Some, IfOk, length, map};
     ghost use Rattle.vl_drive.specs.Driven.{IsClosed};
     ghost use Rattle.vl_drive.specs.Stores.{AreOf};
-    ghost use Rattle.vl_engine.specs.Sees.{SeesAlone};
+    ghost use Rattle.vl_reads.specs.Sees.{SeesAlone};
     ghost use Rattle.vl_engine_model.specs.declared.lock_history.LockEntry.{LockEntry};
     ghost use Rattle.vl_mem.specs.Held.{held_bytes};
     ghost use Rattle.vl_model.specs.History.{last_number};
@@ -69,7 +69,7 @@ impl Shops for SureStore {
 
 impl Closed for SureEngine {
     ghost use Rattle.std.specs.Prelude.{◌≡◌, Some};
-    ghost use Rattle.vl_engine.specs.Sees.{SeesAlone};
+    ghost use Rattle.vl_reads.specs.Sees.{SeesAlone};
     ghost use Rattle.vl_mem.specs.Held.{held_bytes};
     ghost use Rattle.vl_model.specs.History.{last_number};
 

@@ -15,7 +15,7 @@ use vl_model::Value;
 impl Shop for SureSession<SureDisk> {
     ghost use Rattle.vlstore.specs.Shops.{known_by, note_of};
     ghost use Rattle.std.specs.Prelude.{Some};
-    ghost use Rattle.vl_engine.specs.Sees.{Sees};
+    ghost use Rattle.vl_reads.specs.Sees.{Sees};
     ghost use Rattle.vl_mem.specs.Held.{held_bytes};
 
     type Txn = Txn<<SureDisk as Disk>::Held, Cached<<SureDisk as Disk>::Reader>>;

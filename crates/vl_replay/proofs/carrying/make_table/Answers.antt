@@ -4,7 +4,7 @@ use Rattle.vl_replay.proofs.CarryingJob.{filling_failed, fits_kept, fits_same, f
 use Rattle.vl_replay.proofs.CarryingJob.{one_lent, reading_failed, refused_under_way, sound_filling, sound_reading, still_lent}
 use Rattle.vl_replay.proofs.CarryingJob.{unlent_tells}
 use Rattle.vl_replay.proofs.CarryingRounds.{ended, filled, is_fresh, unfilled, unlent, unread}
-use Rattle.vl_engine.specs.Removing.{Removes}
+use Rattle.vl_space.specs.Removing.{Removes}
 use Rattle.vl_replay.proofs.CarryingRemoved.{lent_leaves, unlent_leaves}
 use Rattle.vl_replay.proofs.carrying.make_table.Goals as goal
 

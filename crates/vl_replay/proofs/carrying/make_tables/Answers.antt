@@ -3,7 +3,7 @@ use Rattle.std.proofs.Common.{refl, ap, ◌∙◌}
 use Rattle.vl_engine_laws.specs.declared.kept.Core.{Core}
 use Rattle.vl_replay.proofs.CarryingJob.{just_planned, lent_under_way, may_hand_in}
 use Rattle.vl_replay.proofs.CarryingTables.{all_made, halted, not_begun, one_so_far, out_is, planned_so_far, used_up}
-use Rattle.vl_engine.specs.Removing.{Removes}
+use Rattle.vl_space.specs.Removing.{Removes}
 use Rattle.vl_replay.proofs.CarryingRemoved.{left_before, left_ended, left_first, left_made, left_used_up}
 use Rattle.vl_replay.proofs.carrying.make_tables.Goals as goal
 

@@ -3,7 +3,7 @@ use Rattle.vl_engine_model.specs.declared.job.Job.{Job}
 use Rattle.vl_replay.specs.Drawn.{IsPlanned}
 use Rattle.vl_replay.specs.Rounds.{HasLent}
 use Rattle.vl_script_model.specs.Sequential.{State}
-use Rattle.vl_engine.specs.Removing.{Removes}
+use Rattle.vl_space.specs.Removing.{Removes}
 use Rattle.vl_replay.proofs.CarryingRemoved.{LeavesDrawn}
 use Rattle.vl_replay.proofs.CarryingTables.{SoFar}
 use Rattle.vl_replay.proofs.carrying.make_tables.Given as goal

@@ -1,6 +1,6 @@
 use Rattle.std.proofs.Common.{rules, ℕ, List, [], ap, sym, ◌∙◌, subst, arith}
 use Rattle.std.specs.FinMap.{entries}
-use Rattle.vl_engine.specs.declared.view.View.{View}
+use Rattle.vl_reads.specs.declared.view.View.{View}
 use Rattle.vl_model.specs.History.{contents_at}
 use Rattle.vl_model.specs.Keys.{Row}
 use Rattle.vl_script_model.specs.Contents.{AreRead, rows_at_once}

@@ -1,6 +1,6 @@
 use Rattle.std.proofs.Common.{◌≡◌, ◌≤◌, ◌<◌, ◌^◌, length}
 use Rattle.std.specs.FinMap.{entries}
-use Rattle.vl_engine.specs.Sees.{SeesAlone}
+use Rattle.vl_reads.specs.Sees.{SeesAlone}
 use Rattle.vl_model.specs.History.{History, contents_at}
 use Rattle.vl_script_model.specs.Contents.{AreRead}
 use Rattle.vl_replay.proofs.Trials.AllRows.{read_left}

@@ -2,7 +2,7 @@ use Rattle.std.proofs.Common.{◌≡◌, ℕ, ◌+◌, ◌-◌, List, [], ◌++�
 use Rattle.std.proofs.lemmas.Option.{slice_get_read}
 use Rattle.std.specs.FinMap.{empty, entries, entries_sorted}
 use Rattle.std.specs.List.{slice_get}
-use Rattle.vl_engine.specs.Reading.{rows_under}
+use Rattle.vl_reads.specs.Reading.{rows_under}
 use Rattle.vl_model.specs.History.{contents_at}
 use Rattle.vl_model.specs.Keys.{Row}
 use Rattle.vl_model.specs.declared.way.Way.TheVariants.{Up}

@@ -4,8 +4,8 @@ use Rattle.vl_engine_laws.specs.MayStep.{Fits}
 use Rattle.vl_engine_laws.specs.Represents.{Represents, StandsFor}
 use Rattle.vl_engine_laws.specs.declared.kept.Core.{Core}
 use Rattle.vl_engine.proofs.LeftRemoved.{halted_none, merge_numbers, removes_left}
-use Rattle.vl_engine.proofs.Planning.{fits_abandoned, represents_abandoned, stands_abandoned}
-use Rattle.vl_engine.specs.Removing.{Removes}
+use Rattle.vl_steps.specs.laws.Planning.{fits_abandoned, represents_abandoned, stands_abandoned}
+use Rattle.vl_space.specs.Removing.{Removes}
 use Rattle.vl_engine_model.specs.Jobs.{job_ended}
 use Rattle.vl_engine.proofs.engine.Engine.abandon.Goals as goal
 

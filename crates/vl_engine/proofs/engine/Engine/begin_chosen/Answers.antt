@@ -2,13 +2,14 @@ use Rattle.std.proofs.Common.{Some, ap, subst, sym}
 use Rattle.std.specs.Prelude.{Option}
 use Rattle.vl_compact.specs.Laid.{AreBoth}
 use Rattle.vl_disk.specs.DiskState.{DiskState}
-use Rattle.vl_engine.proofs.Planning.{decides_planned, fits_planned, fits_readers, is_planned, job_begun, merge_for}
-use Rattle.vl_engine.proofs.Planning.{represents_planned, stands_planned}
+use Rattle.vl_steps.specs.laws.Planning.{decides_planned, fits_planned, fits_readers, is_planned, job_begun, merge_for}
+use Rattle.vl_steps.specs.laws.Planning.{represents_planned, stands_planned}
 use Rattle.vl_engine.proofs.BegunRemoved.{removes_planned}
 use Rattle.vl_engine.proofs.engine.Engine.begin_chosen.Goals as goal
-use Rattle.vl_engine.specs.Removing.{Removes}
-use Rattle.vl_engine.specs.Planning.{IsChosen}
-use Rattle.vl_engine.specs.Merging.{HasMerge, StandsOpen}
+use Rattle.vl_space.specs.Removing.{Removes}
+use Rattle.vl_steps.specs.Planning.{IsChosen}
+use Rattle.vl_steps.specs.Merging.{HasMerge}
+use Rattle.vl_engine_laws.specs.Lent.{StandsOpen}
 use Rattle.vl_engine_laws.specs.Represents.{Represents}
 use Rattle.vl_engine_laws.specs.MayStep.{Fits}
 use Rattle.vl_engine_laws.specs.declared.kept.Core.{Core}

@@ -1,12 +1,12 @@
 use Rattle.std.proofs.Common.{◌≡◌, ap, arith, refl, ◌∙◌, ℕ}
 use Rattle.std.specs.Prelude.{None, Some}
-use Rattle.vl_engine.proofs.Retired.Changing.{some_in}
-use Rattle.vl_engine.proofs.Retired.There.{there_begun}
-use Rattle.vl_engine.proofs.There.Kept.{there_kept, told_stand}
-use Rattle.vl_engine.proofs.Begins.{begins_making, begins_nothing, keeps_making, keeps_told, made_so, next_back}
-use Rattle.vl_engine.proofs.Begins.{next_version, none_known, same_back, still_numbered, stops_making, then_numbered}
-use Rattle.vl_engine.proofs.Fitting.{fit_halted}
-use Rattle.vl_engine.proofs.Lending.{leaves_made, leaves_then, still_lent}
+use Rattle.vl_space.specs.laws.Retired.Changing.{some_in}
+use Rattle.vl_space.specs.laws.Retired.There.{there_begun}
+use Rattle.vl_space.specs.laws.There.Kept.{there_kept, told_stand}
+use Rattle.vl_steps.specs.laws.Begins.{begins_making, begins_nothing, keeps_making, keeps_told, made_so, next_back}
+use Rattle.vl_steps.specs.laws.Begins.{next_version, none_known, same_back, still_numbered, stops_making, then_numbered}
+use Rattle.vl_steps.specs.laws.Fitting.{fit_halted}
+use Rattle.vl_steps.specs.laws.Lending.{leaves_made, leaves_then, still_lent}
 use Rattle.vl_engine_laws.specs.laws.RotateFit.{fit_rotated, stands_still}
 use Rattle.vl_engine_laws.specs.RotateFacts.{at_hold}
 use Rattle.vl_engine_laws.specs.RotateFacts.{IsNextBack, IsSameBack}

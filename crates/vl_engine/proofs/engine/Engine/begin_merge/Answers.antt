@@ -1,7 +1,7 @@
 use Rattle.std.proofs.Common.{◌≡◌, ap, arith, refl, subst, sym, true, Some}
-use Rattle.vl_engine.proofs.Fitting.{fit_still}
-use Rattle.vl_engine.proofs.Planning.{none_lent}
-use Rattle.vl_engine.proofs.StillThere.{leaves_none, there_begun, there_told}
+use Rattle.vl_steps.specs.laws.Fitting.{fit_still}
+use Rattle.vl_steps.specs.laws.Planning.{none_lent}
+use Rattle.vl_space.specs.laws.StillThere.{leaves_none, there_begun, there_told}
 use Rattle.vl_engine_laws.specs.Known.{are_known}
 use Rattle.vl_version.specs.declared.version.Version.{Version}
 use Rattle.vl_engine.proofs.UnderWay.{just_planned}

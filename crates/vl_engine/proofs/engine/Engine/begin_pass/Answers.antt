@@ -2,8 +2,8 @@ use Rattle.std.proofs.Common.{◌≡◌, ap, arith, refl, subst, sym, true, ◌�
 use Rattle.vl_collect.specs.Passing.{Begins}
 use Rattle.vl_engine_laws.specs.Known.{are_known}
 use Rattle.vl_engine.proofs.Collected.{found_same}
-use Rattle.vl_engine.proofs.Fitting.{fit_still}
-use Rattle.vl_engine.proofs.StillThere.{leaves_none, there_told}
+use Rattle.vl_steps.specs.laws.Fitting.{fit_still}
+use Rattle.vl_space.specs.laws.StillThere.{leaves_none, there_told}
 use Rattle.vl_engine.proofs.engine.Engine.begin_pass.Goals as goal
 use Rattle.vl_seglog.specs.declared.sealed.SealedLog.{SealedLog}
 use Rattle.vl_version.specs.Bases.{HasSources}

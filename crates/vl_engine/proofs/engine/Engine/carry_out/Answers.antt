@@ -4,8 +4,8 @@ use Rattle.vl_engine_laws.specs.laws.Carrying.{IsWatched}
 use Rattle.vl_engine.proofs.UnderWay.{handed_in, one_more, quiet_draw, still_way, unfilled_way, unlent_way}
 use Rattle.vl_engine.proofs.Whole.{drawn_runs, fails, fits_asked, fits_roomy, fits_taken, has_all, has_same, is_fresh}
 use Rattle.vl_engine.proofs.Whole.{made_more, made_more_with, starts, unbegun, unfilled, unfilled_with, unlent, unlent_with}
-use Rattle.vl_engine.specs.Drawing.{lent_new}
-use Rattle.vl_engine.specs.Removing.{Removes}
+use Rattle.vl_steps.specs.Drawing.{lent_new}
+use Rattle.vl_space.specs.Removing.{Removes}
 use Rattle.vl_engine_laws.specs.declared.kept.Core.{Core}
 use Rattle.vl_engine_model.specs.Decides.{no_effects}
 use Rattle.vl_engine_model.specs.Rulings.Fresh as fresh

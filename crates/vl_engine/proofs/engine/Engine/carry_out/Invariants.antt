@@ -1,9 +1,10 @@
 use Rattle.std.specs.Prelude.{◌≡◌, Some}
 use Rattle.vl_engine.proofs.Whole.{IsMaking}
-use Rattle.vl_engine.specs.Merging.{FitsReaders, HasMerge, StandsOpen}
+use Rattle.vl_steps.specs.Merging.{FitsReaders, HasMerge}
+use Rattle.vl_engine_laws.specs.Lent.{StandsOpen}
 use Rattle.vl_engine_laws.specs.Represents.{Represents}
 use Rattle.vl_engine_laws.specs.MayStep.{Fits}
-use Rattle.vl_engine.specs.Removing.{Removes}
+use Rattle.vl_space.specs.Removing.{Removes}
 use Rattle.vl_engine.specs.UnderWay.{IsUnderWay}
 use Rattle.vl_engine_model.specs.declared.job.OpenJob.{OpenJob}
 use Rattle.vl_engine_model.specs.declared.layout.Layout.{Layout}

@@ -1,9 +1,9 @@
 use Rattle.std.proofs.Common.{refl, sym, ◌∙◌}
 use Rattle.std.specs.Prelude.{[]}
-use Rattle.vl_engine.proofs.Committing.{carries_unwritten, decides_leaving}
-use Rattle.vl_engine.proofs.Fitted.{written_by}
-use Rattle.vl_engine.proofs.Ruled.{carries_by, carries_refused_by, decides_by, failed_by, files_by, no_conflict_by}
-use Rattle.vl_engine.proofs.Ruled.{ruling_so, stands_by, stops_by, unwritten_here}
+use Rattle.vl_steps.specs.laws.Committing.{carries_unwritten, decides_leaving}
+use Rattle.vl_steps.specs.laws.Fitted.{written_by}
+use Rattle.vl_steps.specs.laws.Ruled.{carries_by, carries_refused_by, decides_by, failed_by, files_by, no_conflict_by}
+use Rattle.vl_steps.specs.laws.Ruled.{ruling_so, stands_by, stops_by, unwritten_here}
 use Rattle.vl_engine_laws.specs.laws.Untouched.{alone}
 use Rattle.vl_engine.proofs.engine.Engine.commit.Goals as goal
 use Rattle.vl_engine_laws.specs.Represents.{Fronts, StandsFor, file_of}
@@ -11,9 +11,9 @@ use Rattle.vl_engine_laws.specs.MayStep.{Fits}
 use Rattle.vl_front.specs.declared.decision.Decision.TheVariants as decisions
 use Rattle.vl_engine_model.specs.Ruling.{ended}
 use Rattle.vl_engine_model.specs.Rulings.Commit as answers
-use Rattle.vl_engine.proofs.Untold.{commit_untold}
+use Rattle.vl_steps.specs.laws.Untold.{commit_untold}
 use Rattle.vl_engine.proofs.WriteRemoved.{removes_by, stock_by}
-use Rattle.vl_engine.specs.Removing.{Removes}
+use Rattle.vl_space.specs.Removing.{Removes}
 use Rattle.vl_engine_model.specs.declared.layout.Layout.{Layout}
 use Rattle.vl_model.specs.declared.counter.Counter.TheVariants as counters
 
@@ -27,71 +27,71 @@ returns-in_default-clause-carries g c h l reads is lives notes =
 
 pub returns-in-Halted-clause-decides : goal.returns-in-Halted-clause-decides
 returns-in-Halted-clause-decides g c h l reads is lives notes =
-    decides_leaving (Fronts c.end.new.self.core) h l _ _ (answers.Halted (file_of c.in-Halted.name)) (ended c.args.txn.ticket l)
+    decides_leaving (Fronts c.forget.new.self.core) h l _ _ (answers.Halted (file_of c.in-Halted.name)) (ended c.args.txn.ticket l)
     (ruling_so c.args.self.now.core h l is c.args.txn.ticket c.args.txn.number reads c.args.txn.writes
     (decisions.Halted c.in-Halted.name) lives
     (λ floor remembers below. sym c.in-Halted.is ∙ c.in-Ok.ensures.decided h floor reads remembers below notes))
-    (c.end.ensures.decides h l is)
+    (c.forget.ensures.decides h l is)
 
 pub returns-in-Halted-clause-stands : goal.returns-in-Halted-clause-stands
 returns-in-Halted-clause-stands g c h l reads is lives notes =
-    decides_leaving (StandsFor g.D.Held.HeldFile.bytes c.end.new.self.core) h l _ _
+    decides_leaving (StandsFor g.D.Held.HeldFile.bytes c.forget.new.self.core) h l _ _
     (answers.Halted (file_of c.in-Halted.name)) (ended c.args.txn.ticket l)
     (ruling_so c.args.self.now.core h l is.fronts c.args.txn.ticket c.args.txn.number reads c.args.txn.writes
     (decisions.Halted c.in-Halted.name) lives
     (λ floor remembers below. sym c.in-Halted.is ∙ c.in-Ok.ensures.decided h floor reads remembers below notes))
-    (c.end.ensures.stands h l is)
+    (c.forget.ensures.stands h l is)
 
 pub returns-in-Halted-clause-fits : goal.returns-in-Halted-clause-fits
 returns-in-Halted-clause-fits g c h l reads is fits lives notes =
-    decides_leaving (Fits (g.D.Watched.told c.end.new.self.disk) c.end.new.self.core) h l _ _
+    decides_leaving (Fits (g.D.Watched.told c.forget.new.self.disk) c.forget.new.self.core) h l _ _
     (answers.Halted (file_of c.in-Halted.name)) (ended c.args.txn.ticket l)
     (ruling_so c.args.self.now.core h l is.fronts c.args.txn.ticket c.args.txn.number reads c.args.txn.writes
     (decisions.Halted c.in-Halted.name) lives
     (λ floor remembers below. sym c.in-Halted.is ∙ c.in-Ok.ensures.decided h floor reads remembers below notes))
-    (c.end.ensures.fits h l fits)
+    (c.forget.ensures.fits h l fits)
 
 pub returns-in-Halted-clause-carries : goal.returns-in-Halted-clause-carries
 returns-in-Halted-clause-carries g c h l reads is lives notes =
     carries_refused_by g.D.Watched (record { only_now = g.met.D.Disk.only_now; counts_now = g.met.D.Disk.counts_now })
-    g.D.Held.HeldFile.bytes c.args.self.now.disk c.end.new.self.disk c.args.self.now.core c.end.new.self.core h l
-    c.args.txn.ticket c.args.txn.number reads c.args.txn.writes c.end.ensures.back
+    g.D.Held.HeldFile.bytes c.args.self.now.disk c.forget.new.self.disk c.args.self.now.core c.forget.new.self.core h l
+    c.args.txn.ticket c.args.txn.number reads c.args.txn.writes c.forget.ensures.back
     (answers.Halted (file_of c.in-Halted.name)) (ended c.args.txn.ticket l)
     (ruling_so c.args.self.now.core h l is.stands.fronts c.args.txn.ticket c.args.txn.number reads c.args.txn.writes
     (decisions.Halted c.in-Halted.name) lives
     (λ floor remembers below. sym c.in-Halted.is ∙ c.in-Ok.ensures.decided h floor reads remembers below notes))
-    c.end.ensures.disk is (c.end.ensures.represents h l is)
+    c.forget.ensures.disk is (c.forget.ensures.represents h l is)
 
 pub returns-in-Nothing-clause-decides : goal.returns-in-Nothing-clause-decides
 returns-in-Nothing-clause-decides g c h l reads is lives notes =
-    decides_leaving (Fronts c.end-in-Nothing.new.self.core) h l _ _ answers.Nothing (ended c.args.txn.ticket l)
+    decides_leaving (Fronts c.forget-in-Nothing.new.self.core) h l _ _ answers.Nothing (ended c.args.txn.ticket l)
     (ruling_so c.args.self.now.core h l is c.args.txn.ticket c.args.txn.number reads c.args.txn.writes decisions.Nothing lives
     (λ floor remembers below. sym c.in-Nothing.is ∙ c.in-Ok.ensures.decided h floor reads remembers below notes))
-    (c.end-in-Nothing.ensures.decides h l is)
+    (c.forget-in-Nothing.ensures.decides h l is)
 
 pub returns-in-Nothing-clause-stands : goal.returns-in-Nothing-clause-stands
 returns-in-Nothing-clause-stands g c h l reads is lives notes =
-    decides_leaving (StandsFor g.D.Held.HeldFile.bytes c.end-in-Nothing.new.self.core) h l _ _ answers.Nothing (ended c.args.txn.ticket l)
+    decides_leaving (StandsFor g.D.Held.HeldFile.bytes c.forget-in-Nothing.new.self.core) h l _ _ answers.Nothing (ended c.args.txn.ticket l)
     (ruling_so c.args.self.now.core h l is.fronts c.args.txn.ticket c.args.txn.number reads c.args.txn.writes decisions.Nothing lives
     (λ floor remembers below. sym c.in-Nothing.is ∙ c.in-Ok.ensures.decided h floor reads remembers below notes))
-    (c.end-in-Nothing.ensures.stands h l is)
+    (c.forget-in-Nothing.ensures.stands h l is)
 
 pub returns-in-Nothing-clause-fits : goal.returns-in-Nothing-clause-fits
 returns-in-Nothing-clause-fits g c h l reads is fits lives notes =
-    decides_leaving (Fits (g.D.Watched.told c.end-in-Nothing.new.self.disk) c.end-in-Nothing.new.self.core) h l _ _
+    decides_leaving (Fits (g.D.Watched.told c.forget-in-Nothing.new.self.disk) c.forget-in-Nothing.new.self.core) h l _ _
     answers.Nothing (ended c.args.txn.ticket l)
     (ruling_so c.args.self.now.core h l is.fronts c.args.txn.ticket c.args.txn.number reads c.args.txn.writes decisions.Nothing lives
     (λ floor remembers below. sym c.in-Nothing.is ∙ c.in-Ok.ensures.decided h floor reads remembers below notes))
-    (c.end-in-Nothing.ensures.fits h l fits)
+    (c.forget-in-Nothing.ensures.fits h l fits)
 
 pub returns-in-Nothing-clause-carries : goal.returns-in-Nothing-clause-carries
 returns-in-Nothing-clause-carries g c h l reads is lives notes =
     carries_refused_by g.D.Watched (record { only_now = g.met.D.Disk.only_now; counts_now = g.met.D.Disk.counts_now })
-    g.D.Held.HeldFile.bytes c.args.self.now.disk c.end-in-Nothing.new.self.disk c.args.self.now.core c.end-in-Nothing.new.self.core h l
-    c.args.txn.ticket c.args.txn.number reads c.args.txn.writes c.end-in-Nothing.ensures.back answers.Nothing (ended c.args.txn.ticket l)
+    g.D.Held.HeldFile.bytes c.args.self.now.disk c.forget-in-Nothing.new.self.disk c.args.self.now.core c.forget-in-Nothing.new.self.core h l
+    c.args.txn.ticket c.args.txn.number reads c.args.txn.writes c.forget-in-Nothing.ensures.back answers.Nothing (ended c.args.txn.ticket l)
     (ruling_so c.args.self.now.core h l is.stands.fronts c.args.txn.ticket c.args.txn.number reads c.args.txn.writes decisions.Nothing lives
     (λ floor remembers below. sym c.in-Nothing.is ∙ c.in-Ok.ensures.decided h floor reads remembers below notes))
-    c.end-in-Nothing.ensures.disk is (c.end-in-Nothing.ensures.represents h l is)
+    c.forget-in-Nothing.ensures.disk is (c.forget-in-Nothing.ensures.represents h l is)
 
 pub returns-in-Exhausted-clause-decides : goal.returns-in-Exhausted-clause-decides
 returns-in-Exhausted-clause-decides g c h l reads is lives notes =
@@ -126,41 +126,41 @@ returns-in-Exhausted-clause-carries g c h l reads is lives notes =
 
 pub returns-in-Conflict-clause-decides : goal.returns-in-Conflict-clause-decides
 returns-in-Conflict-clause-decides g c h l reads is lives notes =
-    decides_leaving (Fronts c.end-in-Conflict.new.self.core) h l _ _
+    decides_leaving (Fronts c.forget-in-Conflict.new.self.core) h l _ _
     (answers.Conflict c.in-Conflict.key c.in-Conflict.number) (ended c.args.txn.ticket l)
     (ruling_so c.args.self.now.core h l is c.args.txn.ticket c.args.txn.number reads c.args.txn.writes
     (decisions.Conflict c.in-Conflict.key c.in-Conflict.number) lives
     (λ floor remembers below. sym c.in-Conflict.is ∙ c.in-Ok.ensures.decided h floor reads remembers below notes))
-    (c.end-in-Conflict.ensures.decides h l is)
+    (c.forget-in-Conflict.ensures.decides h l is)
 
 pub returns-in-Conflict-clause-stands : goal.returns-in-Conflict-clause-stands
 returns-in-Conflict-clause-stands g c h l reads is lives notes =
-    decides_leaving (StandsFor g.D.Held.HeldFile.bytes c.end-in-Conflict.new.self.core) h l _ _
+    decides_leaving (StandsFor g.D.Held.HeldFile.bytes c.forget-in-Conflict.new.self.core) h l _ _
     (answers.Conflict c.in-Conflict.key c.in-Conflict.number) (ended c.args.txn.ticket l)
     (ruling_so c.args.self.now.core h l is.fronts c.args.txn.ticket c.args.txn.number reads c.args.txn.writes
     (decisions.Conflict c.in-Conflict.key c.in-Conflict.number) lives
     (λ floor remembers below. sym c.in-Conflict.is ∙ c.in-Ok.ensures.decided h floor reads remembers below notes))
-    (c.end-in-Conflict.ensures.stands h l is)
+    (c.forget-in-Conflict.ensures.stands h l is)
 
 pub returns-in-Conflict-clause-fits : goal.returns-in-Conflict-clause-fits
 returns-in-Conflict-clause-fits g c h l reads is fits lives notes =
-    decides_leaving (Fits (g.D.Watched.told c.end-in-Conflict.new.self.disk) c.end-in-Conflict.new.self.core) h l _ _
+    decides_leaving (Fits (g.D.Watched.told c.forget-in-Conflict.new.self.disk) c.forget-in-Conflict.new.self.core) h l _ _
     (answers.Conflict c.in-Conflict.key c.in-Conflict.number) (ended c.args.txn.ticket l)
     (ruling_so c.args.self.now.core h l is.fronts c.args.txn.ticket c.args.txn.number reads c.args.txn.writes
     (decisions.Conflict c.in-Conflict.key c.in-Conflict.number) lives
     (λ floor remembers below. sym c.in-Conflict.is ∙ c.in-Ok.ensures.decided h floor reads remembers below notes))
-    (c.end-in-Conflict.ensures.fits h l fits)
+    (c.forget-in-Conflict.ensures.fits h l fits)
 
 pub returns-in-Conflict-clause-carries : goal.returns-in-Conflict-clause-carries
 returns-in-Conflict-clause-carries g c h l reads is lives notes =
     carries_refused_by g.D.Watched (record { only_now = g.met.D.Disk.only_now; counts_now = g.met.D.Disk.counts_now })
-    g.D.Held.HeldFile.bytes c.args.self.now.disk c.end-in-Conflict.new.self.disk c.args.self.now.core c.end-in-Conflict.new.self.core h l
-    c.args.txn.ticket c.args.txn.number reads c.args.txn.writes c.end-in-Conflict.ensures.back
+    g.D.Held.HeldFile.bytes c.args.self.now.disk c.forget-in-Conflict.new.self.disk c.args.self.now.core c.forget-in-Conflict.new.self.core h l
+    c.args.txn.ticket c.args.txn.number reads c.args.txn.writes c.forget-in-Conflict.ensures.back
     (answers.Conflict c.in-Conflict.key c.in-Conflict.number) (ended c.args.txn.ticket l)
     (ruling_so c.args.self.now.core h l is.stands.fronts c.args.txn.ticket c.args.txn.number reads c.args.txn.writes
     (decisions.Conflict c.in-Conflict.key c.in-Conflict.number) lives
     (λ floor remembers below. sym c.in-Conflict.is ∙ c.in-Ok.ensures.decided h floor reads remembers below notes))
-    c.end-in-Conflict.ensures.disk is (c.end-in-Conflict.ensures.represents h l is)
+    c.forget-in-Conflict.ensures.disk is (c.forget-in-Conflict.ensures.represents h l is)
 
 pub returns-in-Full-clause-decides : goal.returns-in-Full-clause-decides
 returns-in-Full-clause-decides g c h l reads is lives notes =
@@ -270,16 +270,16 @@ pub returns-in_default-clause-untouched : goal.returns-in_default-clause-untouch
 returns-in_default-clause-untouched g c leaves = alone g.D.Watched _ _ refl
 
 pub returns-in-Halted-clause-untouched : goal.returns-in-Halted-clause-untouched
-returns-in-Halted-clause-untouched g c leaves = alone g.D.Watched _ _ c.end.ensures.disk
+returns-in-Halted-clause-untouched g c leaves = alone g.D.Watched _ _ c.forget.ensures.disk
 
 pub returns-in-Nothing-clause-untouched : goal.returns-in-Nothing-clause-untouched
-returns-in-Nothing-clause-untouched g c leaves = alone g.D.Watched _ _ c.end-in-Nothing.ensures.disk
+returns-in-Nothing-clause-untouched g c leaves = alone g.D.Watched _ _ c.forget-in-Nothing.ensures.disk
 
 pub returns-in-Exhausted-clause-untouched : goal.returns-in-Exhausted-clause-untouched
 returns-in-Exhausted-clause-untouched g c leaves = alone g.D.Watched _ _ refl
 
 pub returns-in-Conflict-clause-untouched : goal.returns-in-Conflict-clause-untouched
-returns-in-Conflict-clause-untouched g c leaves = alone g.D.Watched _ _ c.end-in-Conflict.ensures.disk
+returns-in-Conflict-clause-untouched g c leaves = alone g.D.Watched _ _ c.forget-in-Conflict.ensures.disk
 
 pub returns-in-Full-clause-untouched : goal.returns-in-Full-clause-untouched
 returns-in-Full-clause-untouched g c leaves = alone g.D.Watched _ _ refl
@@ -293,21 +293,21 @@ returns-in-Write-clause-untold g c =
 
 pub returns-in-Halted-clause-removes : goal.returns-in-Halted-clause-removes
 returns-in-Halted-clause-removes g c h l reads is removes lives notes =
-    decides_leaving (λ _ (k : Layout). Removes c.end.new.self.core c.end.new.self.removing k) h l _ _
+    decides_leaving (λ _ (k : Layout). Removes c.forget.new.self.core c.forget.new.self.removing k) h l _ _
     (answers.Halted (file_of c.in-Halted.name)) (ended c.args.txn.ticket l)
     (ruling_so c.args.self.now.core h l is c.args.txn.ticket c.args.txn.number reads c.args.txn.writes
     (decisions.Halted c.in-Halted.name) lives
     (λ floor remembers below. sym c.in-Halted.is ∙ c.in-Ok.ensures.decided h floor reads remembers below notes))
-    (c.end.ensures.removes l removes)
+    (c.forget.ensures.removes l removes)
 
 pub returns-in-Nothing-clause-removes : goal.returns-in-Nothing-clause-removes
 returns-in-Nothing-clause-removes g c h l reads is removes lives notes =
-    decides_leaving (λ _ (k : Layout). Removes c.end-in-Nothing.new.self.core c.end-in-Nothing.new.self.removing k) h l _ _
+    decides_leaving (λ _ (k : Layout). Removes c.forget-in-Nothing.new.self.core c.forget-in-Nothing.new.self.removing k) h l _ _
     answers.Nothing (ended c.args.txn.ticket l)
     (ruling_so c.args.self.now.core h l is c.args.txn.ticket c.args.txn.number reads c.args.txn.writes
     decisions.Nothing lives
     (λ floor remembers below. sym c.in-Nothing.is ∙ c.in-Ok.ensures.decided h floor reads remembers below notes))
-    (c.end-in-Nothing.ensures.removes l removes)
+    (c.forget-in-Nothing.ensures.removes l removes)
 
 pub returns-in-Exhausted-clause-removes : goal.returns-in-Exhausted-clause-removes
 returns-in-Exhausted-clause-removes g c h l reads is removes lives notes =
@@ -320,12 +320,12 @@ returns-in-Exhausted-clause-removes g c h l reads is removes lives notes =
 
 pub returns-in-Conflict-clause-removes : goal.returns-in-Conflict-clause-removes
 returns-in-Conflict-clause-removes g c h l reads is removes lives notes =
-    decides_leaving (λ _ (k : Layout). Removes c.end-in-Conflict.new.self.core c.end-in-Conflict.new.self.removing k) h l _ _
+    decides_leaving (λ _ (k : Layout). Removes c.forget-in-Conflict.new.self.core c.forget-in-Conflict.new.self.removing k) h l _ _
     (answers.Conflict c.in-Conflict.key c.in-Conflict.number) (ended c.args.txn.ticket l)
     (ruling_so c.args.self.now.core h l is c.args.txn.ticket c.args.txn.number reads c.args.txn.writes
     (decisions.Conflict c.in-Conflict.key c.in-Conflict.number) lives
     (λ floor remembers below. sym c.in-Conflict.is ∙ c.in-Ok.ensures.decided h floor reads remembers below notes))
-    (c.end-in-Conflict.ensures.removes l removes)
+    (c.forget-in-Conflict.ensures.removes l removes)
 
 pub returns-in-Full-clause-removes : goal.returns-in-Full-clause-removes
 returns-in-Full-clause-removes g c h l reads is removes lives notes =

@@ -1,6 +1,6 @@
 use Rattle.std.proofs.Common.{sym, ◌∙◌}
 use Rattle.vl_engine.proofs.BegunRemoved.{stock_planned}
-use Rattle.vl_engine.proofs.Planning.{drain_chosen}
+use Rattle.vl_steps.specs.laws.Planning.{drain_chosen}
 use Rattle.vl_engine.proofs.engine.Engine.drain.Goals as goal
 use Rattle.vl_engine_model.specs.Rulings.Drain.{drain_ruling}
 

@@ -4,8 +4,8 @@ use Rattle.std.specs.Prelude.{◌==◌}
 use Rattle.vl_engine_laws.specs.laws.Knowing.{knows_of}
 use Rattle.vl_engine_laws.specs.laws.Represented.{represents_live}
 use Rattle.vl_engine_laws.specs.laws.Standing.{fronts_ended, stands_ended}
-use Rattle.vl_engine.proofs.Stepped.{fits_live}
-use Rattle.vl_engine.proofs.StillRemoved.{removes_live}
+use Rattle.vl_steps.specs.laws.Stepped.{fits_live}
+use Rattle.vl_space.specs.laws.StillRemoved.{removes_live}
 use Rattle.vl_engine_model.specs.declared.live.Live.{Live}
 use Rattle.vl_pins.specs.Pins.{ArePinsOf}
 use Rattle.vl_pins.specs.declared.pins.Pins.{Pins}

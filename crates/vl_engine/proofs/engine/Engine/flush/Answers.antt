@@ -1,26 +1,26 @@
 use Rattle.std.proofs.Common.{arith, refl, sym}
 use Rattle.vl_disk.specs.declared.name.Name.TheVariants as names
 use Rattle.vl_engine.proofs.Retired.Flushing.{flush_removes}
-use Rattle.vl_engine.specs.Removing.{Removes}
+use Rattle.vl_space.specs.Removing.{Removes}
 use Rattle.vl_engine.proofs.Collected.{flush_collects, flush_passes}
-use Rattle.vl_engine.proofs.Committing.{decides_leaving}
-use Rattle.vl_engine.proofs.Fitted.{flushed_by}
-use Rattle.vl_engine.proofs.Flushed.{calls_by, carries_by, carries_leaving_flush, fronts_by, ruled_exhausted}
-use Rattle.vl_engine.proofs.Flushed.{ruled_halted, ruled_idle, runs_on, stands_by, stopped_by, untouched_by}
-use Rattle.vl_engine.proofs.Flushed.{writes_by, written_by}
+use Rattle.vl_steps.specs.laws.Committing.{decides_leaving}
+use Rattle.vl_steps.specs.laws.Fitted.{flushed_by}
+use Rattle.vl_steps.specs.laws.Flushed.{calls_by, carries_by, carries_leaving_flush, fronts_by, ruled_exhausted}
+use Rattle.vl_steps.specs.laws.Flushed.{ruled_halted, ruled_idle, runs_on, stands_by, stopped_by, untouched_by}
+use Rattle.vl_steps.specs.laws.Flushed.{writes_by, written_by}
 use Rattle.vl_engine_laws.specs.laws.FlushKeeps.{kept_itself}
-use Rattle.vl_engine.proofs.FlushSteps.{leaves_numbers, numbers_held}
-use Rattle.vl_engine.proofs.Leaving.{flush_within}
+use Rattle.vl_steps.specs.laws.FlushSteps.{leaves_numbers, numbers_held}
+use Rattle.vl_steps.specs.laws.Leaving.{flush_within}
 use Rattle.vl_engine_laws.specs.laws.Untouched.{alone}
 use Rattle.vl_engine_laws.specs.Represents.{Fronts, StandsFor, file_of}
 use Rattle.vl_engine_laws.specs.MayStep.{Fits}
 use Rattle.vl_engine_laws.specs.laws.FlushRulings.{flush_waits}
-use Rattle.vl_engine.specs.Collecting.{Collects}
-use Rattle.vl_engine.specs.Flushing.{flush_effects}
+use Rattle.vl_space.specs.Collecting.{Collects}
+use Rattle.vl_steps.specs.Flushing.{flush_effects}
 use Rattle.vl_engine_model.specs.Decides.{as_before}
 use Rattle.vl_engine_model.specs.Ruling.{Exhausted, Halted, Idle}
 use Rattle.vl_engine_model.specs.Rulings.Flush.{flush_ruling}
-use Rattle.vl_engine.proofs.Untold.{flush_untold}
+use Rattle.vl_steps.specs.laws.Untold.{flush_untold}
 use Rattle.vl_engine.proofs.engine.Engine.flush.Goals as goal
 
 -- it is halted

@@ -1,27 +1,27 @@
 use Rattle.std.proofs.Common.{arith, refl, subst, ◌≡◌, ◌∙◌}
 use Rattle.vl_disk.specs.declared.name.Name.TheVariants as names
 use Rattle.vl_engine_laws.specs.laws.Carrying.{IsWatched}
-use Rattle.vl_engine.proofs.DrawFits.{fit_drawn, fit_told, is_new, lent_failed, lent_then, log_kept, more_then, same_itself}
-use Rattle.vl_engine.proofs.DrawFits.{leaves_lending, leaves_ready}
-use Rattle.vl_engine.proofs.Committing.{decides_short}
-use Rattle.vl_engine.proofs.DrawFits.{lent_ready}
+use Rattle.vl_steps.specs.laws.DrawFits.{fit_drawn, fit_told, is_new, lent_failed, lent_then, log_kept, more_then, same_itself}
+use Rattle.vl_steps.specs.laws.DrawFits.{leaves_lending, leaves_ready}
+use Rattle.vl_steps.specs.laws.Committing.{decides_short}
+use Rattle.vl_steps.specs.laws.DrawFits.{lent_ready}
 use Rattle.vl_engine.proofs.DrawRemoved.{lent_more_in, lent_same_in, removes_drawn, removes_roomier, stand_lent, there_drawn, there_roomier}
-use Rattle.vl_engine.proofs.Retired.Kept.{opens_lent}
-use Rattle.vl_engine.proofs.Ruled.{looked_none}
-use Rattle.vl_engine.proofs.StillRemoved.{removes_halted}
-use Rattle.vl_engine.proofs.StillThere.{there_told}
-use Rattle.vl_engine.specs.Removing.{Removes}
+use Rattle.vl_space.specs.laws.Retired.Kept.{opens_lent}
+use Rattle.vl_steps.specs.laws.Ruled.{looked_none}
+use Rattle.vl_space.specs.laws.StillRemoved.{removes_halted}
+use Rattle.vl_space.specs.laws.StillThere.{there_told}
+use Rattle.vl_space.specs.Removing.{Removes}
 use Rattle.vl_engine_laws.specs.Represents.{file_of}
 use Rattle.vl_engine_model.specs.Rulings.Fresh.{fresh_ruling}
 use Rattle.vl_engine_model.specs.declared.layout.Layout.{Layout}
-use Rattle.vl_engine.proofs.Lending.{leaves_then}
-use Rattle.vl_engine.proofs.DrawSteps.{carries_done, carries_exhausted, carries_failing, carries_short, decides_drawn}
-use Rattle.vl_engine.proofs.DrawSteps.{decides_undrawn, stops_drawing, writes_err, writes_ok}
-use Rattle.vl_engine.proofs.Drawing.{fits_drawn, leaves_numbers, opens_more, opens_same, runs, stands_drawn, stands_undrawn}
-use Rattle.vl_engine.proofs.Fitting.{fit_halted}
+use Rattle.vl_steps.specs.laws.Lending.{leaves_then}
+use Rattle.vl_steps.specs.laws.DrawSteps.{carries_done, carries_exhausted, carries_failing, carries_short, decides_drawn}
+use Rattle.vl_steps.specs.laws.DrawSteps.{decides_undrawn, stops_drawing, writes_err, writes_ok}
+use Rattle.vl_steps.specs.laws.Drawing.{fits_drawn, leaves_numbers, opens_more, opens_same, runs, stands_drawn, stands_undrawn}
+use Rattle.vl_steps.specs.laws.Fitting.{fit_halted}
 use Rattle.vl_engine_laws.specs.laws.FlushKeeps.{kept_from}
-use Rattle.vl_engine.specs.Drawing.{StopsDrawing, drawn_core}
-use Rattle.vl_engine.specs.Merging.{StandsOpen}
+use Rattle.vl_steps.specs.Drawing.{StopsDrawing, drawn_core}
+use Rattle.vl_engine_laws.specs.Lent.{StandsOpen}
 use Rattle.vl_engine_laws.specs.MayStep.{Fits}
 use Rattle.vl_engine_model.specs.Decides.{no_effects}
 use Rattle.vl_engine.proofs.engine.Engine.fresh.Goals as goal

@@ -1,25 +1,27 @@
 use Rattle.std.proofs.Common.{arith, refl, ◌∙◌}
 use Rattle.std.specs.Prelude.{None}
-use Rattle.vl_engine.proofs.InstallExits.{calls_by, carries_by, carries_ended, carries_short, failed_by, files_by}
-use Rattle.vl_engine.proofs.InstallExits.{fits_by, fits_ended, fits_short, keeps_told, leaves_by, meanwhile_by}
-use Rattle.vl_engine.proofs.InstallExits.{raced_so, ruled_halted, ruled_raced, stands_by, stands_ended, stands_short}
-use Rattle.vl_engine.proofs.InstallExits.{stopped_by, untold_by, untouched_by, within_by}
-use Rattle.vl_engine.proofs.InstallTotal.{core_by, halted_at, none_races, not_halted, written_by}
+use Rattle.vl_steps.specs.laws.InstallExits.{calls_by, carries_by, carries_ended, carries_short, failed_by, files_by}
+use Rattle.vl_steps.specs.laws.InstallExits.{fits_by, fits_ended, fits_short, keeps_told, leaves_by, meanwhile_by}
+use Rattle.vl_steps.specs.laws.InstallExits.{raced_so, ruled_halted, ruled_raced, stands_by, stands_ended, stands_short}
+use Rattle.vl_steps.specs.laws.InstallExits.{stopped_by, untold_by, untouched_by, within_by}
+use Rattle.vl_steps.specs.laws.InstallTotal.{core_by, halted_at, none_races, not_halted, written_by}
 use Rattle.vl_engine_laws.specs.laws.Untouched.{alone}
 use Rattle.vl_compact.specs.Progress.{made_of}
 use Rattle.vl_engine.proofs.Switching.{install_collects, install_err, install_passes}
-use Rattle.vl_engine.specs.Merging.{StandsOpen, install_effects, made_numbers}
-use Rattle.vl_engine.specs.declared.fails.InstallFail.TheVariants as fails
+use Rattle.vl_engine_laws.specs.Lent.{StandsOpen}
+use Rattle.vl_steps.specs.Merging.{install_effects, made_numbers}
+use Rattle.vl_steps.specs.declared.fails.InstallFail.TheVariants as fails
 use Rattle.vl_engine_model.specs.Decides.{no_effects}
 use Rattle.vl_engine_laws.specs.Represents.{file_of}
 use Rattle.vl_engine_model.specs.Rulings.Install as ruling
 use Rattle.std.proofs.Common.{length, subst, sym}
 use Rattle.vl_engine_laws.specs.declared.kept.Core.{Core}
-use Rattle.vl_engine.proofs.Flushed.{runs_on}
+use Rattle.vl_steps.specs.laws.Flushed.{runs_on}
 use Rattle.vl_engine.proofs.LeftRemoved.{halted_none, removes_left, room_left, there_left}
 use Rattle.vl_engine.proofs.Retired.Installs.{ended_by, fewer_leavings, halted_other, install_removes, raced_other}
 use Rattle.vl_engine.proofs.Retired.Installs.{short_by, way_of, whole_numbers}
-use Rattle.vl_engine.specs.Removing.{Removes, lent_in}
+use Rattle.vl_space.specs.Removing.{Removes}
+use Rattle.vl_engine_laws.specs.Lent.{lent_in}
 use Rattle.vl_engine_model.specs.Jobs.{job_ended}
 use Rattle.vl_engine.proofs.engine.Engine.install.Goals as goal
 

@@ -1,5 +1,5 @@
 use Rattle.std.proofs.Common.{refl}
-use Rattle.vl_engine.proofs.Retired.Changing.{stays_itself}
+use Rattle.vl_space.specs.laws.Retired.Changing.{stays_itself}
 use Rattle.vl_engine.proofs.Switching.{installs_then}
 use Rattle.vl_engine.proofs.engine.Engine.install_unraced.Goals as goal
 

@@ -1,16 +1,16 @@
-use Rattle.vl_engine.proofs.Committing.{decides_leaving}
-use Rattle.vl_engine.proofs.Flushed.{runs_on as runs_so}
-use Rattle.vl_engine.proofs.KeepSteps.{leaves_numbers}
-use Rattle.vl_engine.proofs.KeptBy.{carries_by, carries_left, carries_same, fits_by, fronts_by, is_invalid, is_some}
+use Rattle.vl_steps.specs.laws.Committing.{decides_leaving}
+use Rattle.vl_steps.specs.laws.Flushed.{runs_on as runs_so}
+use Rattle.vl_steps.specs.laws.KeepSteps.{leaves_numbers}
+use Rattle.vl_steps.specs.laws.KeptBy.{carries_by, carries_left, carries_same, fits_by, fronts_by, is_invalid, is_some}
 use Rattle.vl_engine.proofs.KeepRemoved.{removes_by}
-use Rattle.vl_engine.proofs.KeptBy.{left_same, ruled_halted, ruled_invalid, stands_by, switched_by, within_by}
-use Rattle.vl_engine.proofs.KeptBy.{written_by}
+use Rattle.vl_steps.specs.laws.KeptBy.{left_same, ruled_halted, ruled_invalid, stands_by, switched_by, within_by}
+use Rattle.vl_steps.specs.laws.KeptBy.{written_by}
 use Rattle.vl_engine_laws.specs.KeepFacts.{MayKeep}
 use Rattle.vl_engine_laws.specs.Represents.{Fronts, StandsFor, file_of}
 use Rattle.vl_engine_laws.specs.MayStep.{Fits}
 use Rattle.vl_engine_model.specs.Decides.{as_before}
 use Rattle.vl_engine_model.specs.Rulings.Keep.{Halted, InvalidRequest, keep_ruling}
-use Rattle.vl_engine.proofs.Untold.{keep_untold}
+use Rattle.vl_steps.specs.laws.Untold.{keep_untold}
 use Rattle.vl_engine.proofs.engine.Engine.keep.Goals as goal
 
 -- it is halted

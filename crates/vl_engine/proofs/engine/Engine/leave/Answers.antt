@@ -1,8 +1,8 @@
 use Rattle.std.proofs.Common.{◌≡◌, ◌++◌, List, None, Some, map, subst}
 use Rattle.vl_compact.specs.declared.files.Lent.{Lent}
 use Rattle.vl_engine.proofs.LeftRemoved.{there_left}
-use Rattle.vl_engine.specs.Retiring.{LeavesFiles, left_of}
-use Rattle.vl_engine.specs.declared.open.OpenMerge.{OpenMerge}
+use Rattle.vl_space.specs.Retiring.{LeavesFiles, left_of}
+use Rattle.vl_engine_laws.specs.declared.open.OpenMerge.{OpenMerge}
 use Rattle.vl_engine.proofs.engine.Engine.leave.Goals as goal
 
 pub invariant_of-self : goal.invariant_of-self

@@ -1,10 +1,10 @@
 use Rattle.std.proofs.Common.{◌≡◌, Global, List, Vec, [], ap, arith, refl, sym, ◌++◌, ◌∙◌, ◌∷◌, ℕ}
 use Rattle.vl_table.specs.declared.body.shape.TableShape.{TableShape}
-use Rattle.vl_engine.proofs.Collected.{keeps_readied, leads_same}
+use Rattle.vl_space.specs.laws.CollectLaws.{keeps_readied, leads_same}
 use Rattle.vl_engine.proofs.Switching.{has_flushed}
 use Rattle.std.specs.List.{filter}
-use Rattle.vl_engine.proofs.HeldLogs.{holds_needed}
-use Rattle.vl_engine.specs.Collecting.{idle_in, points_in}
+use Rattle.vl_space.specs.laws.HeldLogs.{holds_needed}
+use Rattle.vl_space.specs.Collecting.{idle_in, points_in}
 use Rattle.vl_version.specs.Needed.{head_of, is_kept}
 use Rattle.vl_table.specs.declared.table.Table.{Table}
 use Rattle.vl_version.specs.levels.LevelTables.{all_tables}
@@ -12,19 +12,19 @@ use Rattle.std.specs.Prelude.{None, Some}
 use Rattle.vl_disk.specs.declared.name.Name.TheVariants as names
 use Rattle.vl_engine_laws.specs.laws.FlushKeeps.{changed_by, failed_then, fit_flushed, fit_unflushed, kept_from, next_then}
 use Rattle.vl_engine_laws.specs.laws.FlushKeeps.{still_told, stops_by, writes_by}
-use Rattle.vl_engine.proofs.Lending.{leaves_then, leaves_written, still_lent}
+use Rattle.vl_steps.specs.laws.Lending.{leaves_then, leaves_written, still_lent}
 use Rattle.vl_engine_laws.specs.Fit.{IsFitFor}
 use Rattle.vl_engine_laws.specs.Known.{are_known}
 use Rattle.vl_manifest.specs.declared.manifest_log.ManifestLog.{ManifestLog}
 use Rattle.vl_manifest.specs.declared.state.ManifestState.{ManifestState}
 use Rattle.vl_memtable.specs.Contents.{Contents}
 use Rattle.vl_disk.specs.DiskState.{DiskState}
-use Rattle.vl_engine.proofs.Retired.Changing.{has_some, no_logs, only_tables, stays_either, stays_itself, stays_readied}
+use Rattle.vl_space.specs.laws.Retired.Changing.{has_some, no_logs, only_tables, stays_either, stays_itself, stays_readied}
 use Rattle.vl_engine.proofs.Retired.Flushing.{switches_stock}
-use Rattle.vl_engine.proofs.Retired.Switched.{keeps_made, keeps_switch, made_stands, there_by}
-use Rattle.vl_engine.proofs.Retired.There.{from_use, still_but, there_quiet, there_used}
-use Rattle.vl_engine.specs.Removing.{numbers_left}
-use Rattle.vl_engine.specs.Retiring.{is_idle_log}
+use Rattle.vl_space.specs.laws.Retired.Switched.{keeps_made, keeps_switch, made_stands, there_by}
+use Rattle.vl_space.specs.laws.Retired.There.{from_use, still_but, there_quiet, there_used}
+use Rattle.vl_space.specs.Removing.{numbers_left}
+use Rattle.vl_space.specs.Retiring.{is_idle_log}
 use Rattle.vl_pins.specs.Files.{kept_in, with_tables}
 use Rattle.vl_engine.proofs.engine.Engine.make_table.Goals as goal
 

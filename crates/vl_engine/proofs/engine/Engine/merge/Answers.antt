@@ -10,12 +10,12 @@ use Rattle.vl_engine.proofs.MergeRemoved.{untouched_removing, was_put_in}
 use Rattle.vl_engine.proofs.Whole.{begun, begun_with, collects_so, given_up, given_up_collecting, goes_on, none_kept, put_in}
 use Rattle.vl_engine.proofs.Switching.{install_idle}
 use Rattle.vl_engine.proofs.Whole.{put_in_collecting, unless_halted, untouched_by, untouched_collecting}
-use Rattle.vl_engine.specs.declared.fails.InstallFail.TheVariants as fails
-use Rattle.vl_engine.specs.Merging.{HasAllMerge, OpensMerge}
-use Rattle.vl_engine.specs.Pinning.{PinsMerge}
-use Rattle.vl_engine.specs.Removing.{Removes}
+use Rattle.vl_steps.specs.declared.fails.InstallFail.TheVariants as fails
+use Rattle.vl_steps.specs.Merging.{HasAllMerge, OpensMerge}
+use Rattle.vl_space.specs.Pinning.{PinsMerge}
+use Rattle.vl_space.specs.Removing.{Removes}
 use Rattle.vl_engine.specs.Whole.{kept_of}
-use Rattle.vl_engine.specs.declared.open.Collecting.{Collecting}
+use Rattle.vl_space.specs.declared.kept.Collecting.{Collecting}
 use Rattle.vl_engine_model.specs.Jobs.{AreLent}
 use Rattle.vl_engine_model.specs.Rulings.Plan.{plan_ruling}
 use Rattle.vl_engine_model.specs.declared.job.Job.{Job}

@@ -1,6 +1,6 @@
 use Rattle.std.proofs.Common.{◌≤◌, arith, ap, length, sym, ◌∙◌}
 use Rattle.vl_engine_laws.specs.MoveFacts.{move_length}
-use Rattle.vl_engine.proofs.RelocatingWritten.{no_name, relocated_by, some_left}
+use Rattle.vl_steps.specs.laws.RelocatingWritten.{no_name, relocated_by, some_left}
 use Rattle.vl_engine.proofs.engine.Engine.move_again.Goals as goal
 
 pub returns-in-Ok-write_moves-clause-as_moved : goal.returns-in-Ok-write_moves-clause-as_moved

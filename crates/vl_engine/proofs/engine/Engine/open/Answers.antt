@@ -7,11 +7,11 @@ use Rattle.vl_engine_laws.specs.laws.Opened.{opened_stands, opening_through, ope
 use Rattle.vl_engine.proofs.engine.Engine.open.Goals as goal
 use Rattle.vl_engine_laws.specs.Found.{recovered}
 use Rattle.vl_engine_laws.specs.Known.{are_known}
-use Rattle.vl_engine.proofs.OpenedThere.{opened_there}
-use Rattle.vl_engine.proofs.Readable.{begun_readable}
-use Rattle.vl_engine.proofs.StartRemoved.{removes_at_start}
-use Rattle.vl_engine.proofs.TallyBegun.{sealed_begun}
-use Rattle.vl_engine.specs.Collecting.{AreSealed}
+use Rattle.vl_space.specs.laws.OpenedThere.{opened_there}
+use Rattle.vl_space.specs.laws.Readable.{begun_readable}
+use Rattle.vl_space.specs.laws.StartRemoved.{removes_at_start}
+use Rattle.vl_space.specs.laws.TallyBegun.{sealed_begun}
+use Rattle.vl_space.specs.Collecting.{AreSealed}
 use Rattle.vl_engine_model.specs.Start.{layout_at_start}
 use Rattle.vl_seglog.specs.declared.sealed.SealedLog.{SealedLog}
 use Rattle.vl_engine_laws.specs.Found.{AreLeveled}

@@ -4,19 +4,19 @@ use Rattle.vl_engine_laws.specs.Pointed.{layout_logs}
 use Rattle.vl_engine_laws.specs.Represents.{Represents}
 use Rattle.vl_engine_laws.specs.declared.kept.Core.{Core}
 use Rattle.vl_engine.proofs.BegunRemoved.{removes_kept, removes_picked, stock_picked}
-use Rattle.vl_engine.proofs.Collected.{collects_kept, head_is_laid, keeps_readied}
-use Rattle.vl_engine.proofs.Committing.{decides_leaving}
+use Rattle.vl_space.specs.laws.CollectLaws.{collects_kept, head_is_laid, keeps_readied}
+use Rattle.vl_steps.specs.laws.Committing.{decides_leaving}
 use Rattle.vl_engine.proofs.PassLaws.{fits_passing, represents_passing, stands_passing}
 use Rattle.vl_engine.proofs.Picking.{collects_begun, decides_begun, is_none, is_some, pass_fits, picked_pass}
 use Rattle.vl_engine.proofs.Picking.{tidy_then}
 use Rattle.vl_engine.proofs.engine.Engine.pick.Goals as goal
-use Rattle.vl_engine.specs.Collecting.{Collects, pick_outcome}
-use Rattle.vl_engine.specs.Merging.{StandsOpen}
-use Rattle.vl_engine.specs.Pinning.{PinsPass}
-use Rattle.vl_engine.specs.Removing.{Removes}
+use Rattle.vl_space.specs.Collecting.{Collects, pick_outcome}
+use Rattle.vl_engine_laws.specs.Lent.{StandsOpen}
+use Rattle.vl_space.specs.Pinning.{PinsPass}
+use Rattle.vl_space.specs.Removing.{Removes}
 use Rattle.vl_engine_model.specs.declared.layout.Layout.{Layout}
 use Rattle.vl_disk.specs.DiskState.{DiskState}
-use Rattle.vl_engine.specs.declared.open.OpenMerge.{OpenMerge}
+use Rattle.vl_engine_laws.specs.declared.open.OpenMerge.{OpenMerge}
 use Rattle.vl_engine_model.specs.Decides.{Decides, as_before, no_effects}
 use Rattle.vl_engine_model.specs.Ruling.{pin_of}
 use Rattle.vl_engine_model.specs.Rulings.Pick.{NoRewrite, pick_ruling}

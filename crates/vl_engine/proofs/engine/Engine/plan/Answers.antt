@@ -1,6 +1,6 @@
 use Rattle.std.proofs.Common.{sym, ◌∙◌}
 use Rattle.vl_engine.proofs.BegunRemoved.{stock_planned}
-use Rattle.vl_engine.proofs.Planning.{plan_chosen}
+use Rattle.vl_steps.specs.laws.Planning.{plan_chosen}
 use Rattle.vl_engine.proofs.engine.Engine.plan.Goals as goal
 use Rattle.vl_engine_model.specs.Rulings.Plan.{plan_ruling}
 

@@ -1,11 +1,11 @@
 use Rattle.std.proofs.Common.{ap, arith, refl, subst, sym, ◌∙◌}
 use Rattle.vl_compact.specs.Laid.{AreLevelsOf}
 use Rattle.vl_disk.specs.declared.name.Name.TheVariants as names
-use Rattle.vl_engine.proofs.HandedIn.{made_given, may_take_all}
-use Rattle.vl_engine.proofs.HeldLogs.{holds_needed}
-use Rattle.vl_engine.specs.Collecting.{idle_in}
+use Rattle.vl_steps.specs.laws.HandedIn.{made_given, may_take_all}
+use Rattle.vl_space.specs.laws.HeldLogs.{holds_needed}
+use Rattle.vl_space.specs.Collecting.{idle_in}
 use Rattle.vl_engine_laws.specs.laws.InstallDiskEdits.{install_next}
-use Rattle.vl_engine.proofs.Lending.{leaves_told, no_manifest, still_lent}
+use Rattle.vl_steps.specs.laws.Lending.{leaves_told, no_manifest, still_lent}
 use Rattle.std.specs.List.{filter}
 use Rattle.std.specs.Prelude.{None, length, map, ◌++◌}
 use Rattle.vl_pins.specs.Files.{BecomesBy, HasRoom}
@@ -16,14 +16,14 @@ use Rattle.vl_version.specs.Needed.{head_of, is_kept}
 use Rattle.vl_version.specs.levels.LevelsLooked.{tables_of}
 use Rattle.vl_engine.proofs.PutLeft.{free_of, off_left, put_into, room_put, there_others}
 use Rattle.vl_engine.proofs.PutThere.{there_put}
-use Rattle.vl_engine.specs.Retiring.{LeavesFiles, is_idle_log, left_of, switching}
-use Rattle.vl_engine.proofs.Retired.Changing.{stays_either, stays_itself, stays_readied}
-use Rattle.vl_engine.proofs.Retired.There.{there_quiet, there_used}
+use Rattle.vl_space.specs.Retiring.{LeavesFiles, is_idle_log, left_of, switching}
+use Rattle.vl_space.specs.laws.Retired.Changing.{stays_either, stays_itself, stays_readied}
+use Rattle.vl_space.specs.laws.Retired.There.{there_quiet, there_used}
 use Rattle.vl_engine.proofs.Switching.{has_put_in, readied_self}
-use Rattle.vl_engine.proofs.PutIn.{fit_installed, fit_uninstalled, none_open, quiet_then}
-use Rattle.vl_engine.specs.Installing.{InstallsAll, StopsInstalling}
+use Rattle.vl_steps.specs.laws.PutIn.{fit_installed, fit_uninstalled, none_open, quiet_then}
+use Rattle.vl_steps.specs.Installing.{InstallsAll, StopsInstalling}
 use Rattle.vl_engine_laws.specs.Known.{are_known}
-use Rattle.vl_engine.specs.Taking.{MayTakeAll}
+use Rattle.vl_steps.specs.Taking.{MayTakeAll}
 use Rattle.vl_engine_model.specs.Levels.{replaced}
 use Rattle.vl_engine.proofs.engine.Engine.put_in.Goals as goal
 

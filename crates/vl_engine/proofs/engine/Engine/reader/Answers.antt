@@ -1,4 +1,4 @@
-use Rattle.vl_engine.proofs.Beginning.{looks_told}
+use Rattle.vl_engine_laws.specs.laws.TableFiles.{looks_told}
 use Rattle.vl_engine.proofs.engine.Engine.reader.Goals as goal
 
 pub returns-in-Ok-clause-fits : goal.returns-in-Ok-clause-fits

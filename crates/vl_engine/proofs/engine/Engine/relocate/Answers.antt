@@ -1,9 +1,9 @@
 use Rattle.vl_engine.proofs.MoveRemoved.{removes_by}
-use Rattle.vl_engine.proofs.RelocatingAnswers.{as_segment, failed_so, fits_behind, read_so, stopped_so, undamaged_so}
-use Rattle.vl_engine.proofs.RelocatingExits.{carries_by, fits_by, settled_by, stands_by}
-use Rattle.vl_engine.proofs.RelocatingTotals.{back_by, calls_by, files_by, logs_by, merging_by, steps_by, untold_then, untouched_by}
-use Rattle.vl_engine.specs.Merging.{StandsOpen}
-use Rattle.vl_engine.specs.Relocating.{at, move_effects, move_outcome}
+use Rattle.vl_steps.specs.laws.RelocatingAnswers.{as_segment, failed_so, fits_behind, read_so, stopped_so, undamaged_so}
+use Rattle.vl_steps.specs.laws.RelocatingExits.{carries_by, fits_by, settled_by, stands_by}
+use Rattle.vl_steps.specs.laws.RelocatingTotals.{back_by, calls_by, files_by, logs_by, merging_by, steps_by, untold_then, untouched_by}
+use Rattle.vl_engine_laws.specs.Lent.{StandsOpen}
+use Rattle.vl_steps.specs.Relocating.{at, move_effects, move_outcome}
 use Rattle.vl_engine.proofs.engine.Engine.relocate.Goals as goal
 
 pub returns-clause-as_moved : goal.returns-clause-as_moved

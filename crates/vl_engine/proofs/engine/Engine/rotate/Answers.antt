@@ -1,20 +1,20 @@
 use Rattle.std.proofs.Common.{arith, refl, subst, sym}
 use Rattle.vl_engine_laws.specs.Represents.{Fronts}
-use Rattle.vl_engine.proofs.Begins.{keeps_told}
+use Rattle.vl_steps.specs.laws.Begins.{keeps_told}
 use Rattle.vl_engine.proofs.Collected.{refused_undone, rotate_collects, rotate_leaves, rotate_passes, step_left}
-use Rattle.vl_engine.proofs.Fitted.{rotate_refused, rotated_by}
-use Rattle.vl_engine.proofs.Leaving.{rotate_within}
-use Rattle.vl_engine.proofs.RotateSteps.{leaves_numbers, running_so}
+use Rattle.vl_steps.specs.laws.Fitted.{rotate_refused, rotated_by}
+use Rattle.vl_steps.specs.laws.Leaving.{rotate_within}
+use Rattle.vl_steps.specs.laws.RotateSteps.{leaves_numbers, running_so}
 use Rattle.vl_engine.proofs.Retired.Rotating.{rotate_leaves_so, rotate_removes}
-use Rattle.vl_engine.specs.Removing.{Removes}
-use Rattle.vl_engine.proofs.Rotated.{begins_by, calls_by, can_by, carries_as_refused, carries_by, fronts_as_refused}
-use Rattle.vl_engine.proofs.Rotated.{fronts_by, numbers_held, refused_calls, refused_no_disk, stands_as_refused}
-use Rattle.vl_engine.proofs.Rotated.{stands_by, stopped_by, untouched_by}
+use Rattle.vl_space.specs.Removing.{Removes}
+use Rattle.vl_steps.specs.laws.Rotated.{begins_by, calls_by, can_by, carries_as_refused, carries_by, fronts_as_refused}
+use Rattle.vl_steps.specs.laws.Rotated.{fronts_by, numbers_held, refused_calls, refused_no_disk, stands_as_refused}
+use Rattle.vl_steps.specs.laws.Rotated.{stands_by, stopped_by, untouched_by}
 use Rattle.vl_engine_laws.specs.laws.Untouched.{alone}
-use Rattle.vl_engine.specs.Rotating.{rotate_effects}
-use Rattle.vl_engine.specs.Stepping.{StepFailed}
+use Rattle.vl_steps.specs.Rotating.{rotate_effects}
+use Rattle.vl_steps.specs.Stepping.{StepFailed}
 use Rattle.vl_engine_model.specs.Rulings.Rotate.{rotate_ruling}
-use Rattle.vl_engine.proofs.Untold.{rotate_untold, untold_same}
+use Rattle.vl_steps.specs.laws.Untold.{rotate_untold, untold_same}
 use Rattle.vl_engine.proofs.engine.Engine.rotate.Goals as goal
 
 -- none is begun

@@ -2,15 +2,15 @@ use Rattle.std.proofs.Common.{ap, arith, refl, subst, sym, ◌∙◌, ℕ}
 use Rattle.std.specs.Prelude.{Some}
 use Rattle.vl_compact.specs.declared.files.Lent.{Lent}
 use Rattle.vl_engine.proofs.Collected.{active_is}
-use Rattle.vl_engine.proofs.Retired.Changing.{has_some, less_lent, readied_for, stays_either, stays_itself, stays_readied}
-use Rattle.vl_engine.specs.Collecting.{IsTallied}
-use Rattle.vl_engine.specs.declared.open.Collecting.{Collecting}
-use Rattle.vl_engine.specs.declared.open.Removing.{Removing}
+use Rattle.vl_space.specs.laws.Retired.Changing.{has_some, less_lent, readied_for, stays_either, stays_itself, stays_readied}
+use Rattle.vl_space.specs.Collecting.{IsTallied}
+use Rattle.vl_space.specs.declared.kept.Collecting.{Collecting}
+use Rattle.vl_space.specs.declared.kept.Removing.{Removing}
 use Rattle.vl_pins.specs.Files.{BecomesBy, HasRoom, kept_in, log_sealed}
 use Rattle.vl_pins.specs.declared.stock.Stock.{Stock}
 use Rattle.vl_front.specs.declared.front.Front.{Front}
 use Rattle.std.specs.Option.{option_map}
-use Rattle.vl_engine.proofs.Retired.There.{there_sealed, there_used}
+use Rattle.vl_space.specs.laws.Retired.There.{there_sealed, there_used}
 use Rattle.vl_engine.proofs.engine.Engine.seal_active.Goals as goal
 
 pub returns-in_default-clause-sealed : goal.returns-in_default-clause-sealed

@@ -2,7 +2,7 @@ use Rattle.std.proofs.Common.{Global, Option, Vec, ap, subst, ◌∙◌}
 use Rattle.vl_engine.proofs.Collected.{active_is}
 use Rattle.vl_engine.proofs.engine.Engine.stats.Goals as goal
 use Rattle.vl_engine.proofs.engine.Engine.stats.Goals.{in-None+in_ok-tally_of-in-None+in_ok-stats-in-None, in-Some+in_ok-stats-in-Some}
-use Rattle.vl_engine.specs.Collecting.{Tallies}
+use Rattle.vl_space.specs.Collecting.{Tallies}
 use Rattle.vl_engine_model.specs.declared.segment.SegmentStat.{SegmentStat}
 use Rattle.vl_stats.specs.Tallies.{Tallied}
 

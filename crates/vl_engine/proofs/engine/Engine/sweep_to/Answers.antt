@@ -1,6 +1,6 @@
 use Rattle.std.specs.Prelude.{Some}
 use Rattle.vl_engine.proofs.Sweeps.Answered.{sweeps}
-use Rattle.vl_engine.specs.Sweeping.{at}
+use Rattle.vl_space.specs.Sweeping.{at}
 use Rattle.vl_engine.proofs.engine.Engine.sweep_to.Goals as goal
 
 pub returns : goal.returns

@@ -1,8 +1,8 @@
 use Rattle.std.proofs.Common.{◌≡◌, ℕ, None, Some, Ok, Err, ap, subst, ◌∙◌, arith, refl, true, false}
 use Rattle.vl_engine_laws.specs.declared.kept.Core.{Core}
-use Rattle.vl_engine.proofs.There.Swept.{more_gone, taken_fit, taken_lent, taken_there}
-use Rattle.vl_engine.proofs.There.Swept.{has_swept, taken_waits}
-use Rattle.vl_engine.specs.Sweeping.{HasSwept}
+use Rattle.vl_space.specs.laws.There.Swept.{more_gone, taken_fit, taken_lent, taken_there}
+use Rattle.vl_space.specs.laws.There.Swept.{has_swept, taken_waits}
+use Rattle.vl_space.specs.Sweeping.{HasSwept}
 use Rattle.vl_engine.proofs.engine.Engine.sweep_up_to.Goals as goal
 
 pub remove_file-requires : goal.remove_file-requires

@@ -1,8 +1,8 @@
 use Rattle.std.specs.Prelude.{◌≡◌, ◌+◌, None}
 use Rattle.std.specs.VecDeque.{deque_capacity, deque_len}
 use Rattle.vl_disk.specs.Faults.{HasCause}
-use Rattle.vl_engine.proofs.There.Swept.{HasGone}
-use Rattle.vl_engine.specs.Sweeping.{PinsStay, up_to}
+use Rattle.vl_space.specs.laws.There.Swept.{HasGone}
+use Rattle.vl_space.specs.Sweeping.{PinsStay, up_to}
 use Rattle.vl_engine.proofs.engine.Engine.sweep_up_to.Given as goal
 
 abbrev pub invariant-loop-file : goal.invariant-loop-file

@@ -1,11 +1,11 @@
 use Rattle.std.proofs.Common.{ap, arith, refl, sym, ◌∙◌, ℕ}
 use Rattle.vl_disk.specs.DiskState.{appended}
 use Rattle.vl_disk.specs.declared.name.Name.TheVariants as names
-use Rattle.vl_engine.proofs.KeptBy.{files_in_part, files_switched, fit_by, same_after, same_by, staged_by, stops_by, writes_by}
-use Rattle.vl_engine.proofs.Lending.{leaves_switch, leaves_then, leaves_told, no_manifest, still_lent}
-use Rattle.vl_engine.proofs.StillThere.{there_still, there_told}
-use Rattle.vl_engine.proofs.There.Kept.{same_stand}
-use Rattle.vl_engine.proofs.Untold.{untold_by}
+use Rattle.vl_steps.specs.laws.KeptBy.{files_in_part, files_switched, fit_by, same_after, same_by, staged_by, stops_by, writes_by}
+use Rattle.vl_steps.specs.laws.Lending.{leaves_switch, leaves_then, leaves_told, no_manifest, still_lent}
+use Rattle.vl_space.specs.laws.StillThere.{there_still, there_told}
+use Rattle.vl_space.specs.laws.There.Kept.{same_stand}
+use Rattle.vl_steps.specs.laws.Untold.{untold_by}
 use Rattle.vl_manifest.specs.Switching.{switched}
 use Rattle.vl_engine.proofs.engine.Engine.switch_kept.Goals as goal
 

@@ -1,12 +1,12 @@
 use Rattle.std.proofs.Common.{◌≡◌, ℕ, ap, refl, sym, subst, true, ◌∙◌}
 use Rattle.vl_engine.proofs.Beginning.{began_as, decides_begun, decides_refused, has_room, is_full, last_begun, sees_now, ticket_is}
-use Rattle.vl_engine.proofs.Fitting.{fit_still}
+use Rattle.vl_steps.specs.laws.Fitting.{fit_still}
 use Rattle.vl_engine_laws.specs.laws.Knowing.{knows_of}
 use Rattle.vl_engine_laws.specs.laws.Represented.{represents_live}
 use Rattle.vl_engine_laws.specs.laws.Standing.{fronts_begun, stands_begun}
-use Rattle.vl_engine.proofs.Stepped.{fits_back, fits_live}
+use Rattle.vl_steps.specs.laws.Stepped.{fits_back, fits_live}
 use Rattle.vl_engine_laws.specs.Known.{are_known}
-use Rattle.vl_engine_laws.specs.LiesOver.{IsInMemory}
+use Rattle.vl_version.specs.LiesOver.{IsInMemory}
 use Rattle.vl_engine_laws.specs.Represents.{Fronts, Represents, StandsFor}
 use Rattle.vl_front.specs.declared.front.Front.{Front}
 use Rattle.vl_engine_model.specs.Rulings.Begin.{begun}
@@ -14,16 +14,17 @@ use Rattle.vl_engine_model.specs.Tickets.{free_ticket, tickets_of}
 use Rattle.vl_model.specs.History.{last_number}
 use Rattle.vl_oracle.specs.LiveTickets.{LiveTickets}
 use Rattle.vl_seglog.specs.declared.active.ActiveLog.{ActiveLog}
+use Rattle.vl_table.specs.KeptBlocks.{AreKept}
 use Rattle.vl_version.specs.declared.version.Version.{Version}
-use Rattle.vl_engine.proofs.StillRemoved.{pins_here, removes_live, removes_same}
+use Rattle.vl_space.specs.laws.StillRemoved.{pins_here, removes_live, removes_same}
 use Rattle.vl_engine.proofs.engine.Engine.view.Goals as goal
 
 pub returns-in-Ok-begin-clause-decides : goal.returns-in-Ok-begin-clause-decides
 returns-in-Ok-begin-clause-decides g c h l is =
     let core = c.args.self.now.core in
     let room = has_room core h l is c.in-Ok-begin.ensures.room in
-    decides_begun l h _ room _ _ (c.in-Ok-begin.ensures.ok.0 ∙ ticket_is core h l is)
-    (c.last.ensures.last ∙ ap (λ (o : LiveTickets). o.last) c.in-Ok-begin.ensures.ok.1 ∙ is.front.last)
+    decides_begun l h _ room _ _ (c.new.ensures.ticket ∙ c.in-Ok-begin.ensures.ok.0 ∙ ticket_is core h l is)
+    (c.new.ensures.number ∙ c.last.ensures.last ∙ ap (λ (o : LiveTickets). o.last) c.in-Ok-begin.ensures.ok.1 ∙ is.front.last)
     (fronts_begun core h l is _ c.in-Ok-begin.ensures.log refl (c.in-Ok-begin.ensures.knows h (knows_of core h l is))
     c.in-Ok-begin.ensures.ok.1 room)
 
@@ -32,8 +33,8 @@ returns-in-Ok-begin-clause-stands g c h l is =
     let core = c.args.self.now.core in
     let f = is.fronts in
     let room = has_room core h l f c.in-Ok-begin.ensures.room in
-    decides_begun l h _ room _ _ (c.in-Ok-begin.ensures.ok.0 ∙ ticket_is core h l f)
-    (c.last.ensures.last ∙ ap (λ (o : LiveTickets). o.last) c.in-Ok-begin.ensures.ok.1 ∙ f.front.last)
+    decides_begun l h _ room _ _ (c.new.ensures.ticket ∙ c.in-Ok-begin.ensures.ok.0 ∙ ticket_is core h l f)
+    (c.new.ensures.number ∙ c.last.ensures.last ∙ ap (λ (o : LiveTickets). o.last) c.in-Ok-begin.ensures.ok.1 ∙ f.front.last)
     (stands_begun g.D.Held.HeldFile.bytes core _ h l is c.share.ensures.same
     (fronts_begun core h l f _ c.in-Ok-begin.ensures.log refl (c.in-Ok-begin.ensures.knows h (knows_of core h l f))
     c.in-Ok-begin.ensures.ok.1 room))
@@ -43,8 +44,8 @@ returns-in-Ok-begin-clause-represents g c h l is =
     let core = c.args.self.now.core in
     let f = is.stands.fronts in
     let room = has_room core h l f c.in-Ok-begin.ensures.room in
-    decides_begun l h _ room _ _ (c.in-Ok-begin.ensures.ok.0 ∙ ticket_is core h l f)
-    (c.last.ensures.last ∙ ap (λ (o : LiveTickets). o.last) c.in-Ok-begin.ensures.ok.1 ∙ f.front.last)
+    decides_begun l h _ room _ _ (c.new.ensures.ticket ∙ c.in-Ok-begin.ensures.ok.0 ∙ ticket_is core h l f)
+    (c.new.ensures.number ∙ c.last.ensures.last ∙ ap (λ (o : LiveTickets). o.last) c.in-Ok-begin.ensures.ok.1 ∙ f.front.last)
     (represents_live g.D.Held.HeldFile.bytes core _ h l refl _ _ refl
     (begun l (free_ticket (tickets_of l.live)) (last_number h)).live is
     (stands_begun g.D.Held.HeldFile.bytes core _ h l is.stands c.share.ensures.same
@@ -56,23 +57,27 @@ returns-in-Ok-begin-clause-fits g c h l is fits =
     let core = c.args.self.now.core in
     let f = is.fronts in
     let room = has_room core h l f c.in-Ok-begin.ensures.room in
-    decides_begun l h _ room _ _ (c.in-Ok-begin.ensures.ok.0 ∙ ticket_is core h l f)
-    (c.last.ensures.last ∙ ap (λ (o : LiveTickets). o.last) c.in-Ok-begin.ensures.ok.1 ∙ f.front.last)
+    decides_begun l h _ room _ _ (c.new.ensures.ticket ∙ c.in-Ok-begin.ensures.ok.0 ∙ ticket_is core h l f)
+    (c.new.ensures.number ∙ c.last.ensures.last ∙ ap (λ (o : LiveTickets). o.last) c.in-Ok-begin.ensures.ok.1 ∙ f.front.last)
     (fits_live core _ h l _ _ refl refl (begun l (free_ticket (tickets_of l.live)) (last_number h)).live fits)
 
 pub returns-in-Ok-begin-clause-sees : goal.returns-in-Ok-begin-clause-sees
 returns-in-Ok-begin-clause-sees g c h l is =
-    sees_now g.D.Held.HeldFile.bytes c.args.self.now.core h l is _ c.in_ok-version.ensures.shared
-    (c.last.ensures.last ∙ ap (λ (o : LiveTickets). o.last) c.in-Ok-begin.ensures.ok.1 ∙ is.fronts.front.last)
-    c.past_of-past.ensures c.in-Ok.ensures.blocks
+    sees_now g.D.Held.HeldFile.bytes c.args.self.now.core h l is _ (c.new.ensures.version ∙ c.in_ok-version.ensures.shared)
+    (c.new.ensures.number ∙ c.last.ensures.last ∙ ap (λ (o : LiveTickets). o.last) c.in-Ok-begin.ensures.ok.1 ∙ is.fronts.front.last)
+    (c.new.ensures.past ∙ c.past_of-past.ensures)
+    (λ files. subst (AreKept files) (sym c.new.ensures.reader) (c.in-Ok.ensures.blocks files))
 
 pub returns-in-Ok-begin-clause-began : goal.returns-in-Ok-begin-clause-began
 returns-in-Ok-begin-clause-began g c h l is =
-    began_as c.args.self.now.core h l is.fronts c.past_of-past.result c.past_of-past.ensures
+    began_as c.args.self.now.core h l is.fronts c.new.result.past (c.new.ensures.past ∙ c.past_of-past.ensures)
 
 pub returns-in-Ok-begin-clause-memory : goal.returns-in-Ok-begin-clause-memory
 returns-in-Ok-begin-clause-memory g c in_memory =
-    subst (IsInMemory {H = g.row.D-Held.Denot}) (sym c.in_ok-version.ensures.shared) in_memory
+    subst (IsInMemory {H = g.row.D-Held.Denot}) (sym (c.new.ensures.version ∙ c.in_ok-version.ensures.shared)) in_memory
+
+pub returns-in-Ok-begin-clause-blocks : goal.returns-in-Ok-begin-clause-blocks
+returns-in-Ok-begin-clause-blocks g c files = subst (AreKept files) (sym c.new.ensures.reader) (c.in-Ok.ensures.blocks files)
 
 pub returns-in-Err-clause-decides : goal.returns-in-Err-clause-decides
 returns-in-Err-clause-decides g c h l is =
@@ -128,8 +133,8 @@ pub returns-in-Ok-begin-clause-removes : goal.returns-in-Ok-begin-clause-removes
 returns-in-Ok-begin-clause-removes g c h l is removes =
     let core = c.args.self.now.core in
     let room = has_room core h l is c.in-Ok-begin.ensures.room in
-    decides_begun l h _ room _ _ (c.in-Ok-begin.ensures.ok.0 ∙ ticket_is core h l is)
-    (c.last.ensures.last ∙ ap (λ (o : LiveTickets). o.last) c.in-Ok-begin.ensures.ok.1 ∙ is.front.last)
+    decides_begun l h _ room _ _ (c.new.ensures.ticket ∙ c.in-Ok-begin.ensures.ok.0 ∙ ticket_is core h l is)
+    (c.new.ensures.number ∙ c.last.ensures.last ∙ ap (λ (o : LiveTickets). o.last) c.in-Ok-begin.ensures.ok.1 ∙ is.front.last)
     (removes_live core _ c.args.self.now.removing (record c.args.self.now.removing { pins = c.begin.new.pins }) l
     (begun l (free_ticket (tickets_of l.live)) (last_number h)).live
     (ap (λ (v : Version g.row.D-Held.Denot). v.behind.logs.items) c.share.ensures.same) refl

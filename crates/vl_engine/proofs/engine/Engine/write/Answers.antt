@@ -4,20 +4,28 @@ use Rattle.std.specs.Prelude.{Option, Some, true}
 use Rattle.vl_back.specs.declared.back.Back.{Back}
 use Rattle.vl_disk.specs.DiskState.{DiskState}
 use Rattle.vl_disk.specs.declared.name.Name.TheVariants as names
-use Rattle.vl_engine.proofs.Fitting.{fit_still, fit_written}
-use Rattle.vl_engine.proofs.Lending.{leaves_then, still_lent}
-use Rattle.vl_engine.proofs.Filing.{same_files_handed}
-use Rattle.vl_engine.proofs.StillThere.{there_still, there_told}
-use Rattle.vl_engine.proofs.There.Kept.{same_stand}
-use Rattle.vl_engine.proofs.Untold.{untold_by}
-use Rattle.vl_engine.proofs.Written.{changed_by, hands_by, known_then, knows_alike, longer, stopped_by}
+use Rattle.vl_steps.specs.laws.Fitting.{fit_still, fit_written}
+use Rattle.vl_steps.specs.laws.Lending.{leaves_then, still_lent}
+use Rattle.vl_steps.specs.laws.Filing.{same_files_handed}
+use Rattle.vl_space.specs.laws.StillThere.{there_still, there_told}
+use Rattle.vl_space.specs.laws.There.Kept.{same_stand}
+use Rattle.vl_steps.specs.laws.Untold.{untold_by}
+use Rattle.vl_steps.specs.Staging.{IsStagedCommit}
+use Rattle.vl_steps.specs.laws.Written.{changed_by, hands_by, known_then, knows_alike, longer, stopped_by}
 use Rattle.vl_engine_laws.specs.Fit.{IsFitFor}
 use Rattle.vl_engine_laws.specs.Known.{are_known}
+use Rattle.vl_front.specs.Decisions.{MayWrite}
+use Rattle.std.specs.FinMap.{entries}
+use Rattle.vl_model.specs.Keys.{Writes}
 use Rattle.vl_oracle.specs.LiveTickets as oracle
 use Rattle.vl_oracle.specs.LiveTickets.{LiveTickets}
 use Rattle.vl_seglog.specs.declared.active.ActiveLog.{ActiveLog}
 use Rattle.vl_version.specs.declared.version.Version.{Version}
 use Rattle.vl_engine.proofs.engine.Engine.write.Goals as goal
+
+pub stage_commit-requires-clause-may : goal.stage_commit-requires-clause-may
+stage_commit-requires-clause-may g c =
+    subst (λ (w : Writes). MayWrite c.args.self.now.core.front (entries w)) (sym c.writes.ensures) c.requires
 
 pub returns-in_default-append_durably-clause-as_written : goal.returns-in_default-append_durably-clause-as_written
 returns-in_default-append_durably-clause-as_written g c =
@@ -26,7 +34,8 @@ returns-in_default-append_durably-clause-as_written g c =
     let same = c.in-Ok.ensures.same in
     let writes = c.args.txn.writes in
     let number : then_front.log.number ≡ before.log.number = ap (λ (log : ActiveLog). log.number) same.log.log in
-    let staged = c.in-Ok.ensures.staged in (
+    let staged = subst (λ (w : Writes). IsStagedCommit c.args.self.now.core.front c.args.self.now.core.version.active.entries w c.in-Ok.staged)
+    c.writes.ensures c.in-Ok.ensures.staged in (
       ap (λ (n : ℕ). names.Log n) number,
       record {
         hands = hands_by g.D.Watched before writes then_front.log.number c.in-Ok.staged.frame number staged.frame
@@ -34,7 +43,8 @@ returns-in_default-append_durably-clause-as_written g c =
             c.append_durably.ensures.time c.append_durably.ensures.tells;
         stopped = λ clean. stopped_by g.D.Watched before writes then_front.log.number c.in-Ok.staged.frame number staged.frame
             c.stage_commit.new.disk c.append_durably.new.disk (c.in_default-append_durably.ensures.stopped clean);
-        live = c.end.ensures.oracle ∙ ap (oracle.ended c.args.txn.ticket) same.oracle;
+        live = c.end.ensures.oracle ∙ ap (λ (n : ℕ). oracle.ended n then_front.oracle) c.ticket-ticket.ensures
+            ∙ ap (oracle.ended c.args.txn.ticket) same.oracle;
         log = c.end.ensures.log.log ∙ same.log.log;
         room = c.end.ensures.log.room ∙ same.log.room;
         halted = c.end.ensures.log.halted ∙ ap (λ (n : ℕ). Some (names.Log n)) number;
@@ -109,7 +119,8 @@ pub invariant_of-self-2-clause-known : goal.invariant_of-self-2-clause-known
 invariant_of-self-2-clause-known g c =
     let before = c.args.self.now.core in
     let same = c.in-Ok.ensures.same in
-    let staged = c.in-Ok.ensures.staged in
+    let staged = subst (λ (w : Writes). IsStagedCommit c.args.self.now.core.front c.args.self.now.core.version.active.entries w c.in-Ok.staged)
+    c.writes.ensures c.in-Ok.ensures.staged in
     known_then before.front c.args.txn.writes before.version.active.entries _ _
     (ap (λ (o : LiveTickets). o.last) c.committed.ensures.oracle ∙ ap (λ (o : LiveTickets). o.last + 1) same.oracle)
     (ap (λ (v : Version g.row.D-Held.Denot). v.active.entries) c.set_active.ensures ∙ staged.more)
@@ -122,7 +133,8 @@ returns-clause-as_written g c =
     let same = c.in-Ok.ensures.same in
     let writes = c.args.txn.writes in
     let number : then_front.log.number ≡ before.front.log.number = ap (λ (log : ActiveLog). log.number) same.log.log in
-    let staged = c.in-Ok.ensures.staged in (
+    let staged = subst (λ (w : Writes). IsStagedCommit c.args.self.now.core.front c.args.self.now.core.version.active.entries w c.in-Ok.staged)
+    c.writes.ensures c.in-Ok.ensures.staged in (
       ap (λ (n : ℕ). n + 1) c.last-number.ensures.last ∙ ap (λ (o : LiveTickets). o.last + 1) same.oracle,
       record {
         hands = hands_by g.D.Watched before.front writes then_front.log.number c.in-Ok.staged.frame number staged.frame
@@ -132,6 +144,7 @@ returns-clause-as_written g c =
             c.stage_commit.new.disk c.append_durably.new.disk (rw c.in-Ok-append_durably.is at c.append_durably.ensures.written);
         calls = rw c.in-Ok-append_durably.is at c.append_durably.ensures.calls;
         live = c.committed.ensures.oracle
+            ∙ ap (λ (n : ℕ). oracle.ended n (oracle.advanced (then_front.oracle.last + 1) then_front.oracle)) c.ticket-ticket.ensures
             ∙ ap (λ (o : LiveTickets). oracle.ended c.args.txn.ticket (oracle.advanced (o.last + 1) o)) same.oracle;
         number = ap (λ (log : ActiveLog). log.number) c.committed.ensures.log.log ∙ c.append_durably.ensures.number ∙ number;
         long = longer g.D.Watched before.front writes then_front.log.number c.in-Ok.staged.frame number staged.frame _
@@ -170,7 +183,8 @@ invariant_of-self-2-clause-there g c running =
     = ap (λ (log : ActiveLog). log.number) same.log.log in
     let back = ap (λ (b : Back). b.state.next_table) c.in-Ok.ensures.back in
     let hands = hands_by g.D.Watched before.core.front writes c.stage_commit.new.core.front.log.number c.in-Ok.staged.frame number
-    c.in-Ok.ensures.staged.frame before.disk c.stage_commit.new.disk c.append_durably.new.disk c.in-Ok.ensures.no_change
+    (subst (λ (w : Writes). IsStagedCommit c.args.self.now.core.front c.args.self.now.core.version.active.entries w c.in-Ok.staged)
+    c.writes.ensures c.in-Ok.ensures.staged).frame before.disk c.stage_commit.new.disk c.append_durably.new.disk c.in-Ok.ensures.no_change
     c.append_durably.ensures.time c.append_durably.ensures.tells in
     there_still g.D.Watched g.D.Writer.Writer before.disk c.append_durably.new.disk before.core _
     before.merging before.merging before.removing.stock before.removing.stock

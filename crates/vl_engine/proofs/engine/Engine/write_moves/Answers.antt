@@ -6,17 +6,17 @@ use Rattle.vl_engine_laws.specs.Known.{are_known}
 use Rattle.vl_disk.specs.Disk.{Stands}
 use Rattle.vl_disk.specs.DiskState.{DiskState}
 use Rattle.vl_disk.specs.declared.name.Name.TheVariants as names
-use Rattle.vl_engine.proofs.Fitting.{fit_halted}
+use Rattle.vl_steps.specs.laws.Fitting.{fit_halted}
 use Rattle.vl_engine_laws.specs.Writing.{written}
-use Rattle.vl_engine.proofs.Filing.{files_written}
-use Rattle.vl_engine.proofs.KeptBy.{same_after, same_by}
-use Rattle.vl_engine.proofs.Lending.{leaves_then, still_lent}
+use Rattle.vl_steps.specs.laws.Filing.{files_written}
+use Rattle.vl_steps.specs.laws.KeptBy.{same_after, same_by}
+use Rattle.vl_steps.specs.laws.Lending.{leaves_then, still_lent}
 use Rattle.vl_engine.proofs.MoveRemoved.{lent_noted}
-use Rattle.vl_engine.proofs.StillThere.{there_still, there_told}
-use Rattle.vl_engine.proofs.There.Kept.{same_stand}
-use Rattle.vl_engine.proofs.Untold.{untold_by}
-use Rattle.vl_engine.proofs.RelocatingWritten.{fit_moved, lent_moved, move_changed, move_handed, move_longer, move_stopped, notes_then}
-use Rattle.vl_engine.proofs.RelocatingStaged.{staged_known}
+use Rattle.vl_space.specs.laws.StillThere.{there_still, there_told}
+use Rattle.vl_space.specs.laws.There.Kept.{same_stand}
+use Rattle.vl_steps.specs.laws.Untold.{untold_by}
+use Rattle.vl_steps.specs.laws.RelocatingWritten.{fit_moved, lent_moved, move_changed, move_handed, move_longer, move_stopped, notes_then}
+use Rattle.vl_steps.specs.laws.RelocatingStaged.{staged_known}
 use Rattle.vl_model.specs.declared.entry.Entry.{Entry}
 use Rattle.vl_seglog.specs.declared.active.ActiveLog.{ActiveLog}
 use Rattle.vl_version.specs.declared.version.Version.{Version}

@@ -2,7 +2,7 @@ use Rattle.std.proofs.Common.{◌≡◌, ◌∷◌, ◌++◌, ◌∙◌, Global,
 use Rattle.std.proofs.lemmas.Iterator.Adapters.{YieldsList-from_vec}
 use Rattle.std.proofs.lemmas.Iterator.Consumers.{YieldsList-end}
 use Rattle.vl_engine.proofs.Leveled.{leveled}
-use Rattle.vl_engine.proofs.Retired.Changing.{map-same}
+use Rattle.vl_space.specs.laws.Retired.Changing.{map-same}
 use Rattle.vl_table.specs.declared.table.Table.{Table}
 use Rattle.vl_engine.proofs.engine.opening.with_levels.Goals as goal
 

@@ -7,7 +7,7 @@ use Rattle.vl_script_model.specs.Sequential.{history_of}
 use Rattle.vl_replay.proofs.Openings.Begun.{opened_holds, opened_passes, opened_stands}
 use Rattle.vl_script_model.specs.laws.Recovering.{refused_not}
 use Rattle.vl_script_model.specs.laws.Starting.{at_most}
-use Rattle.vl_engine.specs.Removing.{Removes}
+use Rattle.vl_space.specs.Removing.{Removes}
 use Rattle.vl_replay.proofs.replayer.Replayer.new.Goals as goal
 
 pub returns-in-Err-clause-refused : goal.returns-in-Err-clause-refused

@@ -10,7 +10,7 @@ use Rattle.vl_script_model.specs.laws.Laws.{state_after-sound}
 use Rattle.vl_replay.proofs.Names.BeginMaking.{too_many_makes, transaction_makes, unread_of}
 use Rattle.vl_replay.proofs.Names.Returning.{returns_so}
 use Rattle.vl_replay.proofs.Names.Serving.{decides_all, represents}
-use Rattle.vl_engine.specs.Removing.{Removes}
+use Rattle.vl_space.specs.Removing.{Removes}
 use Rattle.vl_engine_model.specs.declared.layout.Layout.{Layout}
 use Rattle.vl_engine_model.specs.Rulings.Begin.{TooMany}
 use Rattle.vl_replay.proofs.Lines.Ruled.{begun_layout}

@@ -19,7 +19,7 @@ use Rattle.vl_replay.proofs.Disk.Committed.{full_carries, halted_carries, only_k
 use Rattle.vl_replay.proofs.Names.Making.{its, itself, nothing_there}
 use Rattle.vl_replay.proofs.Names.Serving.{Serves, decides_all, represents}
 use Rattle.vl_replay.proofs.Names.Returning.{read_only_returns, returns_so, taken_as, taken_out, unknown_returns}
-use Rattle.vl_engine.specs.Removing.{Removes}
+use Rattle.vl_space.specs.Removing.{Removes}
 use Rattle.vl_replay.proofs.Lines.Ruled.{committed_layout}
 use Rattle.vl_replay.proofs.replayer.Served.commit.Goals as goal
 

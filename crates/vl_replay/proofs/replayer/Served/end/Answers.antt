@@ -6,7 +6,7 @@ use Rattle.vl_script_model.specs.Sequential.{history_of}
 use Rattle.vl_replay.proofs.Names.BeginMaking.{bare_of, transaction_ends, unnamed_makes, view_ends}
 use Rattle.vl_replay.proofs.Names.Returning.{taken_as, taken_out}
 use Rattle.vl_replay.proofs.Names.Serving.{represents}
-use Rattle.vl_engine.specs.Removing.{Removes}
+use Rattle.vl_space.specs.Removing.{Removes}
 use Rattle.vl_engine_model.specs.Ruling.{ended}
 use Rattle.vl_engine_model.specs.Rulings.Commit.{Transaction as ATxn}
 use Rattle.vl_engine_model.specs.Store.Things.{Thing, thing_of}

@@ -2,8 +2,8 @@
 use Rattle.std.proofs.Common.{◌≡◌, ◌⊎◌, ap, sym, ◌∙◌, subst, arith}
 use Rattle.std.specs.Prelude.{ℕ, Result, OnOk}
 use Rattle.vl_disk.specs.declared.name.Name.TheVariants as names
-use Rattle.vl_engine.specs.Collecting.{Collects}
-use Rattle.vl_engine.specs.Stepping.{step_outcome}
+use Rattle.vl_space.specs.Collecting.{Collects}
+use Rattle.vl_steps.specs.Stepping.{step_outcome}
 use Rattle.vl_engine_model.specs.Ruling.{Ruling, StepAnswer}
 use Rattle.vl_engine_model.specs.Rulings.Flush.{flush_ruling}
 use Rattle.vl_engine_model.specs.Store.Dispatch.{step_by, step_told}
@@ -20,7 +20,7 @@ use Rattle.vl_replay.proofs.Names.StepMaking.{flush_leaves, may_go, step_cause, 
 use Rattle.vl_engine_laws.specs.laws.FlushRulings.{flush_made as flush_ruled, flush_made_so, flush_waits}
 use Rattle.vl_script_model.specs.laws.Torn.{flush_torn}
 use Rattle.vl_replay.proofs.Passes.Stepping.{step_leaves}
-use Rattle.vl_engine.specs.Removing.{Removes}
+use Rattle.vl_space.specs.Removing.{Removes}
 use Rattle.vl_replay.proofs.replayer.Served.flush.Goals as goal
 
 pub returns-clause-makes : goal.returns-clause-makes

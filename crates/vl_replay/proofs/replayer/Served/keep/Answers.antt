@@ -1,7 +1,7 @@
 -- A change of how many versions are kept is answered as its ruling has it, and carried out so.
 use Rattle.std.proofs.Common.{◌≡◌, ap, sym, ◌∙◌, subst}
 use Rattle.std.specs.Prelude.{OnOk, Result}
-use Rattle.vl_engine.specs.Keeping.{keep_outcome}
+use Rattle.vl_steps.specs.Keeping.{keep_outcome}
 use Rattle.vl_engine_laws.specs.laws.KeepLaws.{keep_made as keep_ruled, keep_other}
 use Rattle.vl_engine_model.specs.Ruling.{Ruling}
 use Rattle.vl_engine_model.specs.Rulings.Keep.{KeepAnswer, keep_ruling}
@@ -17,7 +17,7 @@ use Rattle.vl_replay.proofs.Disk.KeptSteps.{keep_carries, keep_halted_at, keep_m
 use Rattle.vl_script_model.specs.laws.Torn.{keep_torn}
 use Rattle.vl_replay.proofs.Names.KeepMaking.{keep_cause, keep_keeps, keep_leaves, keep_makes, keep_sound}
 use Rattle.vl_replay.proofs.Names.Serving.{decides_all, represents}
-use Rattle.vl_engine.specs.Removing.{Removes}
+use Rattle.vl_space.specs.Removing.{Removes}
 use Rattle.vl_replay.proofs.replayer.Served.keep.Goals as goal
 
 pub returns-clause-makes : goal.returns-clause-makes

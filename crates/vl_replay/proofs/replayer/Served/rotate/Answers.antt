@@ -2,8 +2,8 @@
 use Rattle.std.proofs.Common.{◌≡◌, ◌⊎◌, ap, sym, ◌∙◌, subst, arith}
 use Rattle.std.specs.Prelude.{ℕ, Result, OnOk}
 use Rattle.vl_disk.specs.declared.name.Name.TheVariants as names
-use Rattle.vl_engine.specs.Collecting.{Collects}
-use Rattle.vl_engine.specs.Stepping.{step_outcome}
+use Rattle.vl_space.specs.Collecting.{Collects}
+use Rattle.vl_steps.specs.Stepping.{step_outcome}
 use Rattle.vl_engine_model.specs.Ruling.{Ruling, StepAnswer}
 use Rattle.vl_engine_model.specs.Rulings.Rotate.{rotate_ruling}
 use Rattle.vl_engine_model.specs.Store.Dispatch.{step_by, step_told}
@@ -20,7 +20,7 @@ use Rattle.vl_replay.proofs.Names.StepMaking.{rotate_leaves, step_cause, step_ma
 use Rattle.vl_engine_laws.specs.laws.RotateRulings.{made_ruled, rotate_made as rotate_ruled}
 use Rattle.vl_script_model.specs.laws.Torn.{rotate_torn}
 use Rattle.vl_replay.proofs.Passes.Stepping.{step_leaves}
-use Rattle.vl_engine.specs.Removing.{Removes}
+use Rattle.vl_space.specs.Removing.{Removes}
 use Rattle.vl_replay.proofs.replayer.Served.rotate.Goals as goal
 
 pub returns-clause-makes : goal.returns-clause-makes

@@ -2,9 +2,9 @@
 use Rattle.std.proofs.Common.{sym, ◌∙◌, subst}
 use Rattle.std.specs.Prelude.{OnOk, Result}
 use Rattle.vl_engine_laws.specs.Represents as engine
-use Rattle.vl_engine.specs.Collecting.{Collects}
-use Rattle.vl_engine.specs.Merging.{StandsOpen}
-use Rattle.vl_engine.specs.Sweeping.{sweep_outcome}
+use Rattle.vl_space.specs.Collecting.{Collects}
+use Rattle.vl_engine_laws.specs.Lent.{StandsOpen}
+use Rattle.vl_space.specs.Sweeping.{sweep_outcome}
 use Rattle.vl_engine_model.specs.Rulings.Sweep.{sweep_ruling}
 use Rattle.vl_engine_model.specs.Store.Dispatch.{sweep_by}
 use Rattle.vl_script_model.specs.Halts.{HaltsByRead}
@@ -14,7 +14,7 @@ use Rattle.vl_script_model.specs.declared.fails.Halt.{Halt}
 use Rattle.vl_script_model.specs.laws.Laws.{state_after-sound}
 use Rattle.vl_script.specs.declared.answer.Answer.{Answer}
 use Rattle.vl_script.specs.declared.line.Line.TheVariants as lines
-use Rattle.vl_engine.specs.Removing.{Removes}
+use Rattle.vl_space.specs.Removing.{Removes}
 use Rattle.vl_replay.proofs.Disk.Swept.{sweep_carries, sweep_named}
 use Rattle.vl_replay.proofs.Names.Serving.{decides_all, represents}
 use Rattle.vl_replay.proofs.Names.SweepMaking.{sweep_cause, sweep_leaves, sweep_makes, sweep_sound, sweep_sweeps}

@@ -17,7 +17,7 @@ use Rattle.vl_replay.proofs.Merges.Handing.{can_still}
 use Rattle.vl_replay.proofs.Names.Serving.{represents}
 use Rattle.vl_replay.proofs.Passes.Ending.{drop_passes, end_carries, end_makes, end_merges, end_passes, took_no_pass, took_pass}
 use Rattle.vl_replay.proofs.Passes.Used.{going_as, other_named}
-use Rattle.vl_engine.specs.Removing.{Removes}
+use Rattle.vl_space.specs.Removing.{Removes}
 use Rattle.vl_replay.proofs.replayer.collecting.end.Goals as goal
 
 pub returns-in-Some-clause-makes : goal.returns-in-Some-clause-makes

@@ -6,9 +6,9 @@ use Rattle.vl_back.specs.declared.back.Back.{Back}
 use Rattle.vl_engine_laws.specs.Pointed.{layout_logs}
 use Rattle.vl_engine_laws.specs.Represents as engine
 use Rattle.vl_engine_laws.specs.laws.StillLaws.{there_now}
-use Rattle.vl_engine.specs.Merging.{StandsOpen}
-use Rattle.vl_engine.specs.Relocating.{IsDamaged, IsOfPass, MoveLeavesDisk, batch_back, move_outcome}
-use Rattle.vl_engine.specs.declared.fails.MoveFail.{MoveFail}
+use Rattle.vl_engine_laws.specs.Lent.{StandsOpen}
+use Rattle.vl_steps.specs.Relocating.{IsDamaged, IsOfPass, MoveLeavesDisk, batch_back, move_outcome}
+use Rattle.vl_steps.specs.declared.fails.MoveFail.{MoveFail}
 use Rattle.vl_engine_model.specs.Rulings.Relocate as move
 use Rattle.vl_engine_model.specs.Store.Dispatch.{move_by}
 use Rattle.vl_engine_model.specs.Store.Lines as store_lines
@@ -27,7 +27,7 @@ use Rattle.vl_replay.proofs.Passes.Batching.{move_unknown, none_named, other_nam
 use Rattle.vl_replay.proofs.Passes.Moving.{decides_weaker, moved_makes, moved_opens, moved_passes, refused_makes, refused_opens}
 use Rattle.vl_replay.proofs.Passes.Moving.{refused_passes, waits_there}
 use Rattle.vl_replay.proofs.Passes.Standing.{out_carries}
-use Rattle.vl_engine.specs.Removing.{Removes}
+use Rattle.vl_space.specs.Removing.{Removes}
 use Rattle.vl_engine_model.specs.declared.layout.Layout.{Layout}
 use Rattle.vl_replay.proofs.replayer.collecting.move_batch.Goals as goal
 

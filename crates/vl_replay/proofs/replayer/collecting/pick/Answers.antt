@@ -3,8 +3,8 @@ use Rattle.std.proofs.Common.{◌≡◌, ◌∙◌, ℕ, ap, refl, sym, subst}
 use Rattle.std.specs.Prelude.{Ok, Err}
 use Rattle.vl_engine_laws.specs.Shown.{Shown}
 use Rattle.vl_engine_laws.specs.declared.kept.Core.{Core}
-use Rattle.vl_engine.specs.Collecting.{Collects, pick_outcome}
-use Rattle.vl_engine.specs.Merging.{StandsOpen}
+use Rattle.vl_space.specs.Collecting.{Collects, pick_outcome}
+use Rattle.vl_engine_laws.specs.Lent.{StandsOpen}
 use Rattle.vl_engine_model.specs.Decides.{Answered}
 use Rattle.vl_engine_model.specs.Rulings.Pick as rulings
 use Rattle.vl_engine_model.specs.Rulings.Pick.{PickAnswer, pick_ruling}
@@ -26,7 +26,7 @@ use Rattle.vl_script_model.specs.declared.fails.Halt.TheVariants as why
 use Rattle.vl_replay.proofs.Passes.Picking.{answers_ruling, picked_calls, picked_makes, picked_next_log, picked_next_table, picked_passes}
 use Rattle.vl_replay.proofs.Passes.Picking.{picked_represents, picked_running, refused_keeps, refused_makes, refused_passes}
 use Rattle.vl_replay.proofs.Passes.Standing.{out_carries, still_carries}
-use Rattle.vl_engine.specs.Removing.{Removes}
+use Rattle.vl_space.specs.Removing.{Removes}
 use Rattle.vl_engine_model.specs.declared.layout.Layout.{Layout}
 use Rattle.vl_replay.proofs.Passes.Picking.{picked_layout}
 use Rattle.vl_replay.proofs.replayer.collecting.pick.Goals as goal

@@ -34,7 +34,7 @@ use Rattle.vl_replay.proofs.Passes.Stepping.{passes_stepped}
 use Rattle.vl_engine_laws.specs.laws.Lasting.{flush_lasts, rotate_lasts}
 use Rattle.vl_replay.specs.declared.replayer.choice.Choice.TheVariants.{Due, LeadsInto}
 use Rattle.vl_replay.specs.Passing.{PassesIn, name_made}
-use Rattle.vl_engine.specs.Removing.{Removes}
+use Rattle.vl_space.specs.Removing.{Removes}
 use Rattle.vl_replay.proofs.Lines.Sweeps.{batch_layout, sweep_keeps_merges, sweep_keeps_passes, sweep_lasts}
 use Rattle.vl_replay.proofs.Names.Quiet.{get_at_quiet, get_quiet, scan_quiet, write_quiet}
 use Rattle.vl_replay.proofs.replayer.lines.carry_out.Goals as goal

@@ -1,7 +1,7 @@
 -- What the engine keeps of which files can go is what its call leaves.
 use Rattle.std.proofs.Common.{subst, sym}
-use Rattle.vl_engine.specs.Merging.{plan_outcome}
-use Rattle.vl_engine.specs.Removing.{Removes}
+use Rattle.vl_steps.specs.Merging.{plan_outcome}
+use Rattle.vl_space.specs.Removing.{Removes}
 use Rattle.vl_engine_model.specs.Decides.{Decides, as_before, no_effects}
 use Rattle.vl_replay.specs.Choosing.{chosen}
 use Rattle.vl_replay.proofs.replayer.merging.choose.Goals as goal

@@ -4,7 +4,7 @@ use Rattle.std.specs.Prelude.{Ok, Option, Some}
 use Rattle.vl_compact.specs.Progress.{made_of}
 use Rattle.vl_engine_laws.specs.Represents as engine
 use Rattle.vl_engine_laws.specs.Shown.{Shown}
-use Rattle.vl_engine.specs.Merging.{HasMerge}
+use Rattle.vl_steps.specs.Merging.{HasMerge}
 use Rattle.vl_engine.specs.UnderWay.{IsUnderWay}
 use Rattle.vl_engine_model.specs.Jobs.{job_ended}
 use Rattle.vl_script_model.specs.Durable.{CarriesOut}
@@ -23,7 +23,7 @@ use Rattle.vl_replay.proofs.Disk.Carried.{quiet_carries}
 use Rattle.vl_replay.proofs.Merges.Dropping.{drop_carries, drop_makes, drop_merges}
 use Rattle.vl_replay.proofs.Merges.Waiting.{merges_behind, no_merge_named, took, took_none}
 use Rattle.vl_replay.proofs.Names.Serving.{represents}
-use Rattle.vl_engine.specs.Removing.{Removes}
+use Rattle.vl_space.specs.Removing.{Removes}
 use Rattle.vl_replay.proofs.replayer.merging.end.Goals as goal
 
 pub returns-in-None-clause-makes : goal.returns-in-None-clause-makes

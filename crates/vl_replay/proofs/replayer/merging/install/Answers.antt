@@ -1,14 +1,14 @@
 -- An install is answered as its ruling has it, and carried out so.
 use Rattle.std.proofs.Common.{ap, sym, ◌∙◌, refl, subst}
 use Rattle.std.specs.Prelude.{Err, Ok}
-use Rattle.vl_engine.specs.Collecting.{Collects}
+use Rattle.vl_space.specs.Collecting.{Collects}
 use Rattle.vl_engine_model.specs.Store.Things.{Step}
 use Rattle.vl_script_model.specs.declared.fails.Halt.TheVariants as why
 use Rattle.vl_script.specs.declared.answer.Answer.TheVariants as answers
 use Rattle.vl_replay.proofs.Merges.Installing.{back_so, handed_so, line_carries, line_leaves, line_makes, line_merges, line_named}
 use Rattle.vl_replay.proofs.Merges.Installing.{line_sound, no_merge, told_as, told_install, unknown_carries}
 use Rattle.vl_replay.proofs.Merges.Installing.{unknown_install, unknown_step, unplanned, was_planned}
-use Rattle.vl_engine.specs.Removing.{Removes}
+use Rattle.vl_space.specs.Removing.{Removes}
 use Rattle.vl_engine_model.specs.declared.layout.Layout.{Layout}
 use Rattle.vl_replay.proofs.replayer.merging.install.Goals as goal
 

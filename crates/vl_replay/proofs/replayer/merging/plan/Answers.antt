@@ -4,7 +4,8 @@ use Rattle.std.specs.Prelude.{Err, None, Ok, OnOk, Option, Result}
 use Rattle.vl_engine_laws.specs.Shown.{Shown}
 use Rattle.vl_engine_laws.specs.declared.kept.Core.{Core}
 use Rattle.vl_engine_model.specs.Store.Lines as store_lines
-use Rattle.vl_engine.specs.Merging.{StandsOpen, plan_outcome}
+use Rattle.vl_engine_laws.specs.Lent.{StandsOpen}
+use Rattle.vl_steps.specs.Merging.{plan_outcome}
 use Rattle.vl_engine_model.specs.Ruling.{Ruling}
 use Rattle.vl_engine_model.specs.Rulings.Plan.{with_job}
 use Rattle.vl_engine_model.specs.Store.Things.{Step, only, thing_of}
@@ -34,7 +35,7 @@ use Rattle.vl_replay.specs.Standing.{open_in}
 use Rattle.vl_replay.proofs.Names.BeginMaking.{unread_of}
 use Rattle.vl_replay.proofs.Names.Serving.{represents}
 use Rattle.vl_replay.proofs.replayer.merging.plan.Given as given
-use Rattle.vl_engine.specs.Removing.{Removes}
+use Rattle.vl_space.specs.Removing.{Removes}
 use Rattle.vl_replay.proofs.replayer.merging.plan.Goals as goal
 
 -- ---- another merge waits

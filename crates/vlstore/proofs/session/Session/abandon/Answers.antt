@@ -11,7 +11,8 @@ use Rattle.std.proofs.Common.{ℕ}
 use Rattle.std.specs.Option.{option_map}
 use Rattle.vl_compact.specs.Progress.{made_of}
 use Rattle.vl_engine_laws.specs.declared.kept.Core.{Core}
-use Rattle.vl_engine.specs.Merging.{HasMerge, StandsOpen}
+use Rattle.vl_steps.specs.Merging.{HasMerge}
+use Rattle.vl_engine_laws.specs.Lent.{StandsOpen}
 use Rattle.vl_engine_model.specs.Decides.{Answered, Outcome, as_before, no_effects}
 use Rattle.vl_engine_model.specs.Jobs.{Made, job_ended}
 use Rattle.vl_engine_model.specs.LockHistory.{IsOwn, nothing_open, open_job}

@@ -9,14 +9,14 @@ use Rattle.vlstore.proofs.Lending.{merges_left}
 use Rattle.vlstore.proofs.Faults.{begin_answers}
 use Rattle.vlstore.proofs.Sessions.{knowing, may_enter, on_after, over, session_after, stepped_after, number_now}
 use Rattle.vl_turn.specs.Locks.{lock_name, lock_start}
-use Rattle.vl_engine.specs.Answers.{begin_outcome}
+use Rattle.vl_steps.specs.Answers.{begin_outcome}
 use Rattle.vl_engine_model.specs.Decides.{as_before, no_effects}
 use Rattle.vl_engine_model.specs.Rulings.Begin.{begin_ruling}
 use Rattle.vl_engine_model.specs.declared.lock_history.LockStep.TheVariants.{Changed}
 use Rattle.vlstore.proofs.Collecting.{begin_same, collects_by, same_work}
 use Rattle.vlstore.proofs.Steps.{begin_leads}
 use Rattle.vlstore.proofs.Wholes.{begin_job, still_open, whole_by}
-use Rattle.vl_engine.specs.Sees.{Sees}
+use Rattle.vl_reads.specs.Sees.{Sees}
 use Rattle.vlstore.specs.Knowing.{Knows, own_in}
 use Rattle.vlstore.proofs.Begins.{txn_own, txn_sees}
 use Rattle.vlstore.proofs.Sessions.{own_is, seen_after}

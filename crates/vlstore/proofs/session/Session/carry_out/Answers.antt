@@ -2,7 +2,7 @@ use Rattle.std.proofs.Common.{◌≡◌, refl, sym, ◌∙◌, subst}
 use Rattle.std.specs.Prelude.{true, IsSome}
 use Rattle.vl_compact.specs.declared.job.Job.{Job}
 use Rattle.vl_disk.specs.DiskState.{new_file}
-use Rattle.vl_engine.specs.Merging.{fresh_outcome}
+use Rattle.vl_steps.specs.Merging.{fresh_outcome}
 use Rattle.vl_engine_model.specs.Rulings.Fresh.{fresh_ruling}
 use Rattle.vl_version.specs.Bases as bases
 use Rattle.vl_version.specs.declared.base.Base.{Base}

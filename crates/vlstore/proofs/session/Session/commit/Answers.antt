@@ -11,9 +11,9 @@ use Rattle.vlstore.proofs.Sessions.{knowing, may_enter, on_after, over, session_
 use Rattle.vl_turn.specs.Locks.{lock_name, lock_start}
 use Rattle.std.specs.FinMap.{entries, entries_sorted, is_sorted}
 use Rattle.vl_model.specs.Keys.{key_cmp}
-use Rattle.vl_engine.specs.Answers.{commit_effects, commit_outcome}
-use Rattle.vl_engine.specs.Sees.{asked}
-use Rattle.vl_engine.specs.declared.txn.Txn.{Txn}
+use Rattle.vl_steps.specs.Answers.{commit_effects, commit_outcome}
+use Rattle.vl_reads.specs.Sees.{asked}
+use Rattle.vl_reads.specs.declared.txn.Txn.{Txn}
 use Rattle.vl_engine_model.specs.Decides.{as_before}
 use Rattle.vl_engine_model.specs.LockHistory.{number_of, open_tickets}
 use Rattle.vl_engine_model.specs.Ruling.{ended}

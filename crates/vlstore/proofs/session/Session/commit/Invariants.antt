@@ -1,5 +1,5 @@
 use Rattle.std.specs.FinMap.{entries}
-use Rattle.vl_engine.specs.Answers.{commit_outcome}
+use Rattle.vl_steps.specs.Answers.{commit_outcome}
 use Rattle.vlstore.specs.Entries.{commit_entry}
 use Rattle.vlstore.specs.Knowing.{session_in}
 use Rattle.vlstore.specs.Lists.{history_by, layout_by}

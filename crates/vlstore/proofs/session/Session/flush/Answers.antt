@@ -9,8 +9,8 @@ use Rattle.vlstore.proofs.Lending.{merges_left}
 use Rattle.vlstore.proofs.Faults.{step_fails, unfailing}
 use Rattle.vlstore.proofs.Sessions.{knowing, may_enter, on_after, over, session_after, stepped_after, number_now, own_is}
 use Rattle.vl_turn.specs.Locks.{lock_name, lock_start}
-use Rattle.vl_engine.specs.Flushing.{flush_effects}
-use Rattle.vl_engine.specs.Stepping.{step_outcome}
+use Rattle.vl_steps.specs.Flushing.{flush_effects}
+use Rattle.vl_steps.specs.Stepping.{step_outcome}
 use Rattle.vl_engine_model.specs.Decides.{as_before}
 use Rattle.std.specs.Option.{option_map}
 use Rattle.vl_engine_model.specs.declared.job.OpenJob.{OpenJob}

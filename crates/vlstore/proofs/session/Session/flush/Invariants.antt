@@ -1,4 +1,4 @@
-use Rattle.vl_engine.specs.Stepping.{step_outcome}
+use Rattle.vl_steps.specs.Stepping.{step_outcome}
 use Rattle.vlstore.specs.Entries.{flush_entry}
 use Rattle.vlstore.specs.Knowing.{session_in}
 use Rattle.vlstore.specs.Lists.{history_by, layout_by}

@@ -7,7 +7,8 @@ use Rattle.vlstore.specs.Standing.{NeverFails, Stands, parts}
 use Rattle.vlstore.proofs.Faults.{fresh_fails, unfailing}
 use Rattle.vlstore.proofs.Sessions.{knowing, may_enter, number_now, on_after, over, own_is, session_after, stepped_after}
 use Rattle.vl_turn.specs.Locks.{lock_name, lock_start}
-use Rattle.vl_engine.specs.Merging.{StandsOpen, fresh_effects, fresh_outcome}
+use Rattle.vl_engine_laws.specs.Lent.{StandsOpen}
+use Rattle.vl_steps.specs.Merging.{fresh_effects, fresh_outcome}
 use Rattle.vl_engine_model.specs.Decides.{as_before}
 use Rattle.vl_engine_model.specs.LockHistory.{IsOwn}
 use Rattle.vl_engine_model.specs.Rulings.Fresh.{fresh_ruling}

@@ -1,4 +1,4 @@
-use Rattle.vl_engine.specs.Merging.{fresh_outcome}
+use Rattle.vl_steps.specs.Merging.{fresh_outcome}
 use Rattle.vlstore.specs.Entries.{fresh_entry}
 use Rattle.vlstore.specs.Knowing.{session_in}
 use Rattle.vlstore.specs.Lists.{history_by, layout_by}

@@ -13,8 +13,9 @@ use Rattle.std.specs.Option.{option_map}
 use Rattle.vl_compact.specs.Progress.{made_of}
 use Rattle.vl_engine_laws.specs.MayStep.{AreLogFiles}
 use Rattle.vl_engine_laws.specs.Represents.{Represents}
-use Rattle.vl_engine.specs.Installing.{install_otherwise}
-use Rattle.vl_engine.specs.Merging.{HasAllMerge, HasMerge, StandsOpen, install_effects, install_outcome}
+use Rattle.vl_steps.specs.Installing.{install_otherwise}
+use Rattle.vl_steps.specs.Merging.{HasAllMerge, HasMerge, install_effects, install_outcome}
+use Rattle.vl_engine_laws.specs.Lent.{StandsOpen}
 use Rattle.vl_engine_model.specs.Decides.{Decides}
 use Rattle.vl_engine_model.specs.Jobs.{Made, job_ended}
 use Rattle.vl_engine_model.specs.LockHistory.{IsOwn, nothing_open, open_job}

@@ -1,7 +1,7 @@
 use Rattle.std.specs.Prelude.{ℕ, None}
 use Rattle.std.specs.Option.{option_map}
 use Rattle.vl_compact.specs.Progress.{made_of}
-use Rattle.vl_engine.specs.Merging.{install_outcome}
+use Rattle.vl_steps.specs.Merging.{install_outcome}
 use Rattle.vl_engine_model.specs.LockHistory.{open_job}
 use Rattle.vl_engine_model.specs.declared.job.Job.{Job}
 use Rattle.vlstore.specs.Entries.{install_entry}

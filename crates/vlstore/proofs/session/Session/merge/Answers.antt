@@ -3,7 +3,7 @@ use Rattle.std.specs.Prelude.{length, min, ◌^◌, ◌-◌, Option, Ok, Err}
 use Rattle.vl_compact.specs.Laid.{AreBoth}
 use Rattle.vl_compact.specs.Progress.{made_of}
 use Rattle.vl_disk.specs.declared.errors.NoMemory.{NoMemory}
-use Rattle.vl_engine.specs.Merging.{HasMerge, install_outcome, plan_outcome}
+use Rattle.vl_steps.specs.Merging.{HasMerge, install_outcome, plan_outcome}
 use Rattle.vl_engine_model.specs.Decides.{Answered}
 use Rattle.vl_engine_model.specs.Merging.{merged_entries}
 use Rattle.vl_engine_model.specs.Rulings.Abandon.{abandon_ruling}

@@ -10,7 +10,7 @@ use Rattle.vlstore.proofs.Faults.{pick_answers}
 use Rattle.vlstore.proofs.Sessions.{knowing, may_enter, on_after, over, session_after, stepped_after}
 use Rattle.vl_turn.specs.Locks.{lock_name, lock_start}
 use Rattle.std.specs.Option.{option_map}
-use Rattle.vl_engine.specs.Collecting.{IsPicked, pick_outcome}
+use Rattle.vl_space.specs.Collecting.{IsPicked, pick_outcome}
 use Rattle.vl_engine_model.specs.Decides.{as_before, no_effects}
 use Rattle.vl_engine_model.specs.LockHistory.{open_pass}
 use Rattle.vl_engine_model.specs.Rulings.Pick.{PickAnswer, pick_ruling}

@@ -11,7 +11,8 @@ use Rattle.vl_turn.specs.Entries.{with_entry}
 use Rattle.std.specs.Option.{ForSome}
 use Rattle.vl_compact.specs.Laid.{AreBoth}
 use Rattle.vl_engine_laws.specs.declared.kept.Core.{Core}
-use Rattle.vl_engine.specs.Merging.{HasMerge, StandsOpen, plan_outcome}
+use Rattle.vl_steps.specs.Merging.{HasMerge, plan_outcome}
+use Rattle.vl_engine_laws.specs.Lent.{StandsOpen}
 use Rattle.vl_engine_model.specs.Decides.{as_before, no_effects}
 use Rattle.vl_engine_model.specs.Rulings.Plan.{plan_ruling}
 use Rattle.vl_engine_model.specs.declared.job.Job.{Job}

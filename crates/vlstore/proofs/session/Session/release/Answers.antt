@@ -9,8 +9,8 @@ use Rattle.vlstore.proofs.Lending.{merges_left}
 use Rattle.vlstore.proofs.Faults.{always_answers}
 use Rattle.vlstore.proofs.Sessions.{knowing, may_enter, on_after, over, session_after, stepped_after, number_now, own_is}
 use Rattle.vl_turn.specs.Locks.{lock_name, lock_start}
-use Rattle.vl_engine.specs.Lent.{Opens}
-use Rattle.vl_engine.specs.declared.view.View.{View}
+use Rattle.vl_engine_laws.specs.Lent.{Opens}
+use Rattle.vl_reads.specs.declared.view.View.{View}
 use Rattle.vl_engine_model.specs.Decides.{Answered, Outcome, as_before, no_effects}
 use Rattle.vl_engine_model.specs.LockHistory.{number_of, open_tickets}
 use Rattle.vl_engine_model.specs.Ruling.{ended, leaving}

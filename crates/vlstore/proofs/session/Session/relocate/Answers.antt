@@ -7,7 +7,7 @@ use Rattle.vlstore.specs.Standing.{NeverFails, Stands, parts}
 use Rattle.vlstore.proofs.Sessions.{knowing, may_enter, on_after, over, session_after, stepped_after, number_now, own_is}
 use Rattle.vl_turn.specs.Locks.{lock_name, lock_start}
 use Rattle.std.proofs.Common.{List, []}
-use Rattle.vl_engine.specs.Relocating.{move_effects, move_outcome}
+use Rattle.vl_steps.specs.Relocating.{move_effects, move_outcome}
 use Rattle.vl_engine_model.specs.Decides.{Decides, as_before}
 use Rattle.vl_engine_model.specs.Relocation.{Candidate, Pass}
 use Rattle.vl_engine_model.specs.Ruling.{Ruling}

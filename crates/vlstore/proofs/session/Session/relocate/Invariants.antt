@@ -1,5 +1,5 @@
 use Rattle.std.specs.Prelude.{[]}
-use Rattle.vl_engine.specs.Relocating.{move_outcome}
+use Rattle.vl_steps.specs.Relocating.{move_outcome}
 use Rattle.vlstore.specs.Entries.{relocate_entry}
 use Rattle.vlstore.specs.Knowing.{session_in}
 use Rattle.vlstore.specs.Lists.{history_by, layout_by}

@@ -8,8 +8,8 @@ use Rattle.vlstore.proofs.Faults.{sweep_fails, unfailing}
 use Rattle.vlstore.proofs.Sessions.{knowing, may_enter, on_after, over, session_after, stepped_after, number_now, own_is}
 use Rattle.vl_turn.specs.Locks.{lock_name, lock_start}
 use Rattle.std.proofs.Common.{ℕ}
-use Rattle.vl_engine.specs.Merging.{StandsOpen}
-use Rattle.vl_engine.specs.Sweeping.{gone_before, sweep_effects, sweep_otherwise, sweep_outcome, up_to}
+use Rattle.vl_engine_laws.specs.Lent.{StandsOpen}
+use Rattle.vl_space.specs.Sweeping.{gone_before, sweep_effects, sweep_otherwise, sweep_outcome, up_to}
 use Rattle.vl_engine_model.specs.Decides.{Decides}
 use Rattle.vl_engine_model.specs.Rulings.Sweep.{sweep_lost, sweep_ruling}
 use Rattle.vl_engine_model.specs.declared.lock_history.LockStep.TheVariants.{Changed}

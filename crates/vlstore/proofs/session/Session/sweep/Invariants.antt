@@ -1,4 +1,4 @@
-use Rattle.vl_engine.specs.Sweeping.{gone_before, sweep_outcome}
+use Rattle.vl_space.specs.Sweeping.{gone_before, sweep_outcome}
 use Rattle.vlstore.specs.Entries.{sweep_entry}
 use Rattle.vlstore.specs.Knowing.{session_in}
 use Rattle.vlstore.specs.Lists.{history_by, layout_by}

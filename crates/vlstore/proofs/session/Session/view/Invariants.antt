@@ -1,4 +1,4 @@
-use Rattle.vl_engine.specs.Answers.{view_outcome}
+use Rattle.vl_steps.specs.Answers.{view_outcome}
 use Rattle.vlstore.specs.Entries.{begin_entry}
 use Rattle.vlstore.specs.Knowing.{session_in}
 use Rattle.vlstore.specs.Lists.{history_by, layout_by}

@@ -1,7 +1,7 @@
 use Rattle.std.proofs.Common.{refl, ap}
 use Rattle.std.specs.Prelude.{[]}
-use Rattle.vl_engine.specs.Merging.{StandsOpen}
-use Rattle.vl_engine.specs.Relocating.{IsOfPass, move_effects, move_outcome}
+use Rattle.vl_engine_laws.specs.Lent.{StandsOpen}
+use Rattle.vl_steps.specs.Relocating.{IsOfPass, move_effects, move_outcome}
 use Rattle.vl_engine_model.specs.Decides.{as_before}
 use Rattle.vl_engine_model.specs.Relocation.{Pass}
 use Rattle.vl_engine_model.specs.Rulings.Relocate.{relocate_ruling}

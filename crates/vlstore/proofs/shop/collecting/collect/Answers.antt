@@ -1,5 +1,5 @@
 use Rattle.std.proofs.Common.{refl, sym, ◌∙◌, subst}
-use Rattle.vl_engine.specs.Collecting.{pick_outcome}
+use Rattle.vl_space.specs.Collecting.{pick_outcome}
 use Rattle.vl_engine_model.specs.Rulings.Pick.{pick_ruling}
 use Rattle.vlstore.specs.Entries.{pick_entry}
 use Rattle.vlstore.specs.Knowing.{IsOwnPass}

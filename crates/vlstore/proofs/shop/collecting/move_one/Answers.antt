@@ -1,7 +1,7 @@
 use Rattle.std.proofs.Common.{sym, ap, ◌∙◌, subst}
 use Rattle.vl_collect.specs.Faults.{counted}
 use Rattle.vl_engine_laws.specs.MoveFacts.{AreThere}
-use Rattle.vl_engine.specs.Relocating.{move_outcome}
+use Rattle.vl_steps.specs.Relocating.{move_outcome}
 use Rattle.vl_engine_model.specs.Rulings.Relocate.{relocate_ruling}
 use Rattle.vlstore.specs.Entries.{relocate_entry}
 use Rattle.vlstore.specs.Handing.{HasLasted}

@@ -1,4 +1,4 @@
-use Rattle.vl_engine.specs.Answers.{begin_outcome}
+use Rattle.vl_steps.specs.Answers.{begin_outcome}
 use Rattle.vlstore.proofs.Shopping.{begins_so, if_ok, new_writes}
 use Rattle.vlstore.proofs.shop.shopping.SureSessionSureDiskShop.begin.Goals as goal
 

@@ -1,5 +1,5 @@
-use Rattle.vl_engine.specs.Answers.{commit_outcome}
-use Rattle.vl_engine.specs.Sees.{asked}
+use Rattle.vl_steps.specs.Answers.{commit_outcome}
+use Rattle.vl_reads.specs.Sees.{asked}
 use Rattle.vlstore.proofs.Shopping.{no_fault_counted, commit_sound, commits_so}
 use Rattle.vlstore.specs.Entries.{commit_entry}
 use Rattle.std.proofs.Common.{sym, ◌∙◌}

@@ -1,4 +1,4 @@
-use Rattle.vl_engine.specs.Stepping.{step_outcome}
+use Rattle.vl_steps.specs.Stepping.{step_outcome}
 use Rattle.vlstore.proofs.Shopping.{no_fault_counted, flush_sound, flushes_aside}
 use Rattle.vlstore.proofs.SureDisks.{sure_disks}
 use Rattle.vlstore.proofs.shop.shopping.SureSessionSureDiskShop.flush.Goals as goal

@@ -1,7 +1,7 @@
 use Rattle.std.proofs.Common.{◌≡◌, ap, subst}
 use Rattle.std.specs.Prelude.{List, IfOk, Option, Some}
 use Rattle.vl_mem.specs.Held.{held_bytes}
-use Rattle.vl_engine.specs.Sees.{Sees}
+use Rattle.vl_reads.specs.Sees.{Sees}
 use Rattle.vl_model.specs.History.{value_at}
 use Rattle.vl_model.specs.Keys.{Stored}
 use Rattle.vl_model.specs.Reads.{Read}

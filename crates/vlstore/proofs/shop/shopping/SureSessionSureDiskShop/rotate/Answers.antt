@@ -1,4 +1,4 @@
-use Rattle.vl_engine.specs.Stepping.{step_outcome}
+use Rattle.vl_steps.specs.Stepping.{step_outcome}
 use Rattle.vlstore.proofs.Shopping.{no_fault_counted, rotate_sound, rotates_aside}
 use Rattle.vlstore.proofs.SureDisks.{sure_disks}
 use Rattle.vlstore.proofs.shop.shopping.SureSessionSureDiskShop.rotate.Goals as goal

@@ -1,4 +1,4 @@
-use Rattle.vl_engine.specs.Sweeping.{sweep_outcome}
+use Rattle.vl_space.specs.Sweeping.{sweep_outcome}
 use Rattle.vlstore.proofs.Shopping.{no_fault_counted, sweep_sound, sweeps_aside}
 use Rattle.vlstore.proofs.SureDisks.{sure_disks}
 use Rattle.vlstore.proofs.shop.shopping.SureSessionSureDiskShop.sweep.Goals as goal

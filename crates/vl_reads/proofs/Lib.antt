@@ -1,0 +1,2 @@
+mod ReadingPast
+mod Seeing

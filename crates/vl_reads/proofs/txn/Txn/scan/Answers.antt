@@ -1,0 +1,50 @@
+use Rattle.std.proofs.Common.{refl, Global, Vec}
+use Rattle.vl_reads.proofs.Seeing.{fault_near, fault_sound, kept_beside, on_error, sees_scan, sees_still}
+use Rattle.vl_reads.specs.laws.ReadLaws.{contents_stand, none_astray}
+use Rattle.vl_model.specs.Keys.{Row}
+use Rattle.vl_version.specs.Scans.{AreScanned, SomeAstray}
+use Rattle.vl_version.specs.declared.wanted.Wanted.{Wanted}
+use Rattle.vl_model.specs.History.{contents_at}
+use Rattle.vl_reads.proofs.txn.Txn.scan.Goals as goal
+
+pub returns-clause-rows : goal.returns-clause-rows
+returns-clause-rows g c h reads sees =
+    let v = sees.version in
+    let number = c.args.self.now.number in
+    c.in_ok-rows.ensures.answers v.entries_of v.logs v.has (contents_at h number) (contents_stand v.logs v.entries_of h number v.shows)
+
+pub returns-clause-sees : goal.returns-clause-sees
+returns-clause-sees g c h reads sees =
+    sees_scan g.H.HeldFile.bytes c.args.self.now _ h reads sees refl refl refl
+    (kept_beside sees.files c.args.self.now.reader _ c.in_ok-rows.ensures.kept sees.reader.kept)
+    c.args.low.now c.args.high.now c.args.limit c.args.way
+    _ _ c.deref.ensures.value (returns-clause-rows g c h reads sees) c.in_ok-note_scan.ensures.noted
+
+pub returns-in_err-rows-clause-sound : goal.returns-in_err-rows-clause-sound
+returns-in_err-rows-clause-sound g c h reads sees =
+    let v = sees.version in
+    let number = c.args.self.now.number in
+    let asked : Wanted = record { low = c.args.low; high = c.args.high; limit = c.args.limit; way = c.args.way } in
+    fault_sound (λ (rows : Vec Row Global). AreScanned v.logs v.entries_of number asked c.args.self.now.writes
+    rows.items) (SomeAstray v.logs v.entries_of number)
+    (λ name place astray. none_astray v.logs v.entries_of h number v.shows astray.0 astray.1.0)
+    c.in_err-rows.field-0.0
+    (c.in_err-rows.ensures.answers v.entries_of v.logs v.has)
+    c.from_residual-in_err-rows.result c.from_residual-in_err-rows.ensures.1
+
+pub returns-in_err-rows-clause-near : goal.returns-in_err-rows-clause-near
+returns-in_err-rows-clause-near g c alone =
+    fault_near (Vec Row Global) _ c.in_err-rows.field-0.0 (c.in_err-rows.ensures.near alone.tables alone.near)
+    c.from_residual-in_err-rows.result c.from_residual-in_err-rows.ensures.1
+
+pub returns-in_err-rows-clause-still : goal.returns-in_err-rows-clause-still
+returns-in_err-rows-clause-still g c h reads sees =
+    on_error _ _ _ c.from_residual-in_err-rows.result
+    (sees_still g.H.HeldFile.bytes c.args.self.now _ h reads sees refl refl refl
+    (kept_beside sees.files c.args.self.now.reader _ c.in_err-rows.ensures.kept sees.reader.kept) refl)
+
+pub returns-in_err-note_scan-clause-still : goal.returns-in_err-note_scan-clause-still
+returns-in_err-note_scan-clause-still g c h reads sees =
+    on_error _ _ _ c.from_residual-in_err-note_scan.result
+    (sees_still g.H.HeldFile.bytes c.args.self.now _ h reads sees refl refl refl
+    (kept_beside sees.files c.args.self.now.reader _ c.in_ok-rows.ensures.kept sees.reader.kept) c.in_err-note_scan.ensures.err)

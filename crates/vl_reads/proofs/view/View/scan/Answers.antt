@@ -1,0 +1,43 @@
+use Rattle.std.proofs.Common.{ap, ◌∙◌, refl, Global, Vec}
+use Rattle.vl_reads.specs.Reading.{rows_under}
+use Rattle.vl_reads.proofs.Seeing.{fault_near, fault_sound, kept_beside, sees_alone_still}
+use Rattle.vl_reads.specs.laws.ReadLaws.{contents_stand, none_astray}
+use Rattle.vl_version.specs.Scans.{AreScanned, SomeAstray}
+use Rattle.vl_version.specs.declared.wanted.Wanted.{Wanted}
+use Rattle.vl_model.specs.History.{contents_at}
+use Rattle.vl_model.specs.Keys.{Row, Writes}
+use Rattle.vl_reads.proofs.view.View.scan.Goals as goal
+
+pub returns-clause-rows : goal.returns-clause-rows
+returns-clause-rows g c h sees =
+    let v = sees.version in
+    let number = c.args.self.now.number in
+    c.in_ok-rows.ensures.answers v.entries_of v.logs v.has (contents_at h number) (contents_stand v.logs v.entries_of h number v.shows)
+    ∙ ap (λ (own : Writes). rows_under own h number c.args.low.now c.args.high.now c.args.limit c.args.way) c.new-own.ensures
+
+pub returns-in_err-rows-clause-sound : goal.returns-in_err-rows-clause-sound
+returns-in_err-rows-clause-sound g c h sees =
+    let v = sees.version in
+    let number = c.args.self.now.number in
+    let asked : Wanted = record { low = c.args.low; high = c.args.high; limit = c.args.limit; way = c.args.way } in
+    fault_sound (λ (rows : Vec Row Global). AreScanned v.logs v.entries_of number asked c.new-own.result rows.items)
+    (SomeAstray v.logs v.entries_of number)
+    (λ name place astray. none_astray v.logs v.entries_of h number v.shows astray.0 astray.1.0)
+    c.in_err-rows.field-0.0
+    (c.in_err-rows.ensures.answers v.entries_of v.logs v.has)
+    c.from_residual-in_err-rows.result c.from_residual-in_err-rows.ensures.1
+
+pub returns-in_err-rows-clause-near : goal.returns-in_err-rows-clause-near
+returns-in_err-rows-clause-near g c alone =
+    fault_near (Vec Row Global) _ c.in_err-rows.field-0.0 (c.in_err-rows.ensures.near alone.tables alone.near)
+    c.from_residual-in_err-rows.result c.from_residual-in_err-rows.ensures.1
+
+pub returns-clause-still : goal.returns-clause-still
+returns-clause-still g c h sees =
+    sees_alone_still g.H.HeldFile.bytes c.args.self.now _ h sees refl refl refl
+    (kept_beside sees.files c.args.self.now.reader _ c.in_ok-rows.ensures.kept sees.reader.kept)
+
+pub returns-in_err-rows-clause-still : goal.returns-in_err-rows-clause-still
+returns-in_err-rows-clause-still g c h sees =
+    sees_alone_still g.H.HeldFile.bytes c.args.self.now _ h sees refl refl refl
+    (kept_beside sees.files c.args.self.now.reader _ c.in_err-rows.ensures.kept sees.reader.kept)

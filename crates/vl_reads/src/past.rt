@@ -1,0 +1,14 @@
+//! How far back something may read.
+
+mod reading;
+
+pub(crate) use reading::read_past;
+
+/// How far back something may read: the least number at which anything was read where it began, how many of the newest
+/// versions of a key were kept then, and since when.
+#[derive(Clone, Copy)]
+pub struct Past {
+    pub floor: u64,
+    pub keep: u8,
+    pub since: u64,
+}

@@ -1,0 +1,6 @@
+pub mod Collecting
+pub mod laws
+pub mod Pinning
+pub mod Removing
+pub mod Retiring
+pub mod Sweeping

@@ -1,0 +1,4 @@
+-- What a sweep does to each file.
+pub mod Freed
+pub mod Going
+pub mod Outside

@@ -1,0 +1,9 @@
+mod FlushLawful
+mod HeldRoom
+mod InputNumbers
+mod InstallReady
+mod LendsNew
+mod RelocatingEntries
+mod RelocatingFound
+mod Staged
+mod Taking

@@ -1,0 +1,14 @@
+pub mod Answers
+pub mod Drawing
+pub mod Flushing
+pub mod Installing
+pub mod Keeping
+pub mod laws
+pub mod Merging
+pub mod Planning
+pub mod Relocating
+pub mod Rotating
+pub mod Staging
+pub mod Stepping
+pub mod Steps
+pub mod Taking
