@@ -10,7 +10,7 @@ use Rattle.vl_script_model.specs.declared.ending.Ending.{Ending}
 use Rattle.vl_script_model.specs.declared.ending.Ending.TheVariants.{BadWords, NoMemory, WriteFault}
 use Rattle.vl_prog.specs.Process.{MayExitWith, ServedOver}
 use Rattle.vl_prog.specs.Run.{AreNotPlain, AskFor, EndsBy}
-use Rattle.vl_script_model.specs.declared.words.Command.{Command}
+use Rattle.vl_script.specs.declared.words.Command.{Command}
 
 -- a run that wasn't begun has the status of what it was to end by, or the sink's
 pub unbegun_status : {K : Type 0} (g : sink.Ghosts K) (old new : K) (meant : Ending) (status : ℕ)

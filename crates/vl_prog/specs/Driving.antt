@@ -5,7 +5,7 @@ use Rattle.vl_drive.specs.declared.running.Driven.{Driven}
 use Rattle.vl_io.specs.declared.sink.Sink as sink
 use Rattle.vl_script_model.specs.Endings.{no_memory_line, status_of}
 use Rattle.vl_script_model.specs.Steps.{Finishes}
-use Rattle.vl_script_model.specs.Text.{driven_text}
+use Rattle.vl_script.specs.Text.{driven_text}
 use Rattle.vl_script_model.specs.declared.ending.Ending.{Ending}
 use Rattle.vl_script_model.specs.declared.ending.Ending.TheVariants.{Complete, NoMemory}
 

@@ -18,8 +18,8 @@ use Rattle.vl_replay.specs.Benchmark.{StatusOfBench, summary_of}
 use Rattle.vl_prog.specs.Driving.{StatusOfDrive}
 use Rattle.vl_prog.specs.Run.{AreNotPlain, AskFor, EndsBy, FailedAtTables, FailedToRead, HasCountedFault}
 use Rattle.vl_prog.specs.Run.{StatusOfAnswers, StatusOfTrial, TellsOfInput}
-use Rattle.vl_script_model.specs.declared.words.Command.{Command}
-use Rattle.vl_script_model.specs.declared.words.Command.TheVariants.{Bench, Drive, Replay, Trial}
+use Rattle.vl_script.specs.declared.words.Command.{Command}
+use Rattle.vl_script.specs.declared.words.Command.TheVariants.{Bench, Drive, Replay, Trial}
 
 -- the folder that the second word names, and the working folder where there is none
 abbrev pub folder_of : List (List ℕ) → List ℕ

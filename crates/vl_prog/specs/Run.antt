@@ -3,8 +3,8 @@ use Rattle.std.specs.Prelude.{◌≡◌, ◌≢◌, ◌⊎◌, ℕ, List, Option
 use Rattle.vl_disk.specs.Faults.{Rose}
 use Rattle.vl_disk.specs.declared.name.Name.{Name}
 use Rattle.vl_disk.specs.declared.watched.Watched.{Ghosts}
-use Rattle.vl_script_model.specs.Words.{command_of}
-use Rattle.vl_script_model.specs.declared.words.Command.{Command}
+use Rattle.vl_script.specs.Words.{command_of}
+use Rattle.vl_script.specs.declared.words.Command.{Command}
 use Rattle.vl_io.specs.declared.sink.Sink as sink
 use Rattle.vl_script_model.specs.Endings.{status_of}
 use Rattle.vl_script_model.specs.Failing.{ReaderFailed}

@@ -24,7 +24,7 @@ ghost use Rattle.vl_replay.specs.Benchmark.{StatusOfBench, summary_of};
 ghost use Rattle.vl_prog.specs.Driving.{StatusOfDrive};
 ghost use Rattle.vl_prog.specs.Run.{AreNotPlain, AskFor, EndsBy, FailedAtTables, FailedToRead, HasCountedFault};
 ghost use Rattle.vl_prog.specs.Run.{MetDamage, StatusOfAnswers, StatusOfTrial, StatusWithoutOpening, TellsOfInput};
-ghost use Rattle.vl_script_model.specs.declared.words.Command.{Command as Commands};
+ghost use Rattle.vl_script.specs.declared.words.Command.{Command as Commands};
 
 use crate::driving::drive;
 use std::alloc::Global;
@@ -34,8 +34,9 @@ use vl_disk::Disk;
 use vl_drive::Shops;
 use vl_io::{Sink, Source};
 use vl_model::reads_without_conflict_stay_explained;
-use vl_replay::{bench, replay, trial};
-use vl_script_model::{Command, Ended, Ending, NO_MEMORY, USAGE, command_in, finish};
+use vl_replay::{Ended, NO_MEMORY, USAGE, bench, finish, replay, trial};
+use vl_script::{Command, command_in};
+use vl_script_model::Ending;
 
 /// How a run ended: the process's status, as docs/SCRIPT.md lists them, and the disk.
 pub struct CommandEnded<D> {

@@ -9,7 +9,9 @@ use std::sync::Wait;
 use std::thread::Threads;
 use vl_drive::{Driven, Shops, drive_store};
 use vl_io::Sink;
-use vl_script_model::{Ending, NO_MEMORY, driven_text, finish};
+use vl_replay::{NO_MEMORY, finish};
+use vl_script::driven_text;
+use vl_script_model::Ending;
 
 /// Lets so many clients take so many turns each over a store that has nothing, as a seed says, and prints what they came to.
 pub fn drive<T: Shops, R: Threads + Wait + Sync, K: Sink>(

@@ -23,7 +23,7 @@ use Rattle.vl_model.specs.History.{History}
 use Rattle.vl_recover.specs.crash.Held.{AllSettled}
 use Rattle.vl_recover.specs.crash.Starts.{MayOpen}
 use Rattle.vl_script_model.specs.Between.{ShowsBetween}
-use Rattle.vl_replay.specs.Drawn.{DrawsOn, drawn_state}
+use Rattle.vl_replay_laws.specs.Drawn.{DrawsOn, drawn_state}
 use Rattle.vl_script_model.specs.Durable.{CrashesShow, HoldsState, Leaves, Tells}
 use Rattle.vl_script_model.specs.Halts.{HaltsByDisk}
 use Rattle.vl_script_model.specs.Sequential.{State, history_of}

@@ -40,7 +40,7 @@ use Rattle.vl_model.specs.declared.counter.Counter.{Counter}
 use Rattle.vl_model.specs.declared.counter.Counter.TheVariants as counters
 use Rattle.vl_recover.specs.crash.Alike.{IsLeft}
 use Rattle.vl_script_model.specs.Between.{ShowsBetween}
-use Rattle.vl_replay.specs.Drawn.{DrawsOn, IsServing, drawn_state}
+use Rattle.vl_replay_laws.specs.Drawn.{DrawsOn, IsServing, drawn_state}
 use Rattle.vl_script_model.specs.Durable.{CrashesShow, HoldsState}
 use Rattle.vl_script_model.specs.Halts.{HaltsByDisk}
 use Rattle.vl_replay.specs.Rounds.{round_by}

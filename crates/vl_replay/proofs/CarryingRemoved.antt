@@ -23,7 +23,7 @@ use Rattle.vl_model.specs.declared.counter.Counter.{Counter}
 use Rattle.vl_model.specs.declared.counter.Counter.TheVariants as counters
 use Rattle.vl_table.specs.declared.block_reader.BlockReader.{BlockReader}
 use Rattle.vl_version.specs.declared.base.Base.{Base}
-use Rattle.vl_replay.specs.Drawn.{IsServing, drawn_all, drawn_state}
+use Rattle.vl_replay_laws.specs.Drawn.{IsServing, drawn_all, drawn_state}
 use Rattle.vl_replay.specs.Rounds.{RoundLeaves, Rounds, round_by}
 use Rattle.vl_replay.specs.declared.carrying.Round.{Round}
 use Rattle.vl_replay.specs.declared.carrying.Round.TheVariants as rounds

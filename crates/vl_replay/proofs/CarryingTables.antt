@@ -21,7 +21,7 @@ use Rattle.vl_model.specs.declared.counter.Counter.{Counter}
 use Rattle.vl_table.specs.declared.block_reader.BlockReader.{BlockReader}
 use Rattle.vl_version.specs.Bases.{Fits}
 use Rattle.vl_version.specs.declared.base.Base.{Base}
-use Rattle.vl_replay.specs.Drawn.{DrawsOn, EndsMerging, HasTablesFrom, IsPlanned, IsServing, Merged, drawn_state, numbers_from}
+use Rattle.vl_replay_laws.specs.Drawn.{DrawsOn, EndsMerging, HasTablesFrom, IsPlanned, IsServing, Merged, drawn_state, numbers_from}
 use Rattle.vl_script_model.specs.Durable.{HoldsState}
 use Rattle.vl_script_model.specs.Halts.{HaltsByDisk}
 use Rattle.vl_replay.specs.Rounds.{HasThem, IsUnderWay, Rounds}

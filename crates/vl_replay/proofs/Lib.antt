@@ -6,11 +6,9 @@ pub mod CarryingLists
 pub mod CarryingRemoved
 pub mod CarryingRounds
 pub mod CarryingTables
-pub mod Disk
 pub mod Lines
 pub mod Merges
-pub mod Names
 pub mod Openings
-pub mod Passes
+mod Refused
 pub mod Runs
 pub mod Trials

@@ -9,7 +9,7 @@ use Rattle.vl_disk.specs.declared.writer.Writer.{Ghosts as Writers}
 use Rattle.vl_steps.specs.Installing.{numbers_in}
 use Rattle.vl_engine_laws.specs.declared.open.OpenMerge.{OpenMerge}
 use Rattle.vl_model.specs.Numbers.{has}
-use Rattle.vl_replay.specs.declared.replayer.planned.Planned.{Planned}
+use Rattle.vl_replay_laws.specs.declared.planned.Planned.{Planned}
 
 -- no number is there twice
 abbrev pub are_distinct : List ℕ → Bool

@@ -1,9 +1,5 @@
 pub mod Benchmark
-pub mod Choosing
-pub mod Drawn
 pub mod Handed
 pub mod Opened
-pub mod Passing
-pub mod Replaying
 pub mod Rounds
-pub mod Standing
+pub mod Served

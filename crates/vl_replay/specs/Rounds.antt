@@ -26,7 +26,7 @@ use Rattle.vl_disk.specs.declared.read_fault.ReadFault.{ReadFault}
 use Rattle.vl_disk.specs.declared.read_fault.ReadFault.TheVariants as faults
 use Rattle.vl_version.specs.Bases.{Fits}
 use Rattle.vl_version.specs.declared.base.Base.{Base}
-use Rattle.vl_replay.specs.Drawn.{DrawsOn, IsServing, drawn_state}
+use Rattle.vl_replay_laws.specs.Drawn.{DrawsOn, IsServing, drawn_state}
 use Rattle.vl_script_model.specs.Durable.{HoldsState}
 use Rattle.vl_script_model.specs.Halts.{HaltsByDisk}
 use Rattle.vl_script_model.specs.Sequential.{State}

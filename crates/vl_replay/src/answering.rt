@@ -3,7 +3,7 @@ ghost use Rattle.std.specs.Prelude.{◌≡◌, ◌≢◌, None, Some, IfOk, OnOk
 ghost use Rattle.std.specs.Option.{option_map};
 ghost use Rattle.vl_disk.specs.Faults.{Rose, HasCause};
 ghost use Rattle.vl_script_model.specs.Sequential.{State};
-ghost use Rattle.vl_replay.specs.Replaying.{StandsFor, TakesLines, disk_of};
+ghost use Rattle.vl_replay.specs.Served.{StandsFor, TakesLines, disk_of};
 ghost use Rattle.vl_script_model.specs.Exchanges.{exchange_at, state_behind};
 ghost use Rattle.vl_script_model.specs.Endings.{TheDisk, TheSink, TheSource, CountsFaultsOf, CutsAnswer, EndsAs, culprit_of, line_number};
 ghost use Rattle.vl_script_model.specs.Runs.{Script};
@@ -16,14 +16,14 @@ ghost use Rattle.vl_script_model.specs.Halts.{HaltsByDamage, HaltsByDisk, HaltsB
 ghost use Rattle.vl_script_model.specs.Reading.{AnswersText, EndsBadly, IsLine, ReadsText};
 ghost use Rattle.vl_script_model.specs.declared.fails.Refusal.{Refusal};
 
+use crate::ending::{DISK_FAULT, NO_MEMORY, end_at_fault, finish};
+use crate::refusing::end_at_damage;
 use crate::replayer::Replayer;
 use std::alloc::Global;
 use vl_disk::Disk;
 use vl_io::Sink;
 use vl_script::{NUMBER_ROOM, parse_line, print_answer, print_bad_line};
-use vl_script_model::{
-    DISK_FAULT, Ending, Halt, NO_MEMORY, OnFault, end_at_damage, end_at_fault, finish,
-};
+use vl_script_model::{Ending, Halt, OnFault};
 
 /// Carries out a text as a line, and gives the text of its answer; None where it is a bad line. The room for an answer by a
 /// number is there before the line is carried out, so that no commit, move, rotation or merge stands whose answer found no memory.

@@ -7,7 +7,7 @@ ghost use Rattle.vl_mem.specs.contracts.steady_writer.SteadyWriterWriter.TheImpl
 ghost use Rattle.vl_mem.specs.contracts.sure_disk.SureDiskWatched.TheImpl as memory;
 ghost use Rattle.vl_recover.specs.declared.fails.OpenError.TheVariants as why;
 ghost use Rattle.vl_replay.specs.Benchmark.{PrintsSummary, exchanges_of, summary_of, summed};
-ghost use Rattle.vl_replay.specs.Replaying.{StandsFor, TakesLines, disk_of};
+ghost use Rattle.vl_replay.specs.Served.{StandsFor, TakesLines, disk_of};
 ghost use Rattle.vl_script.specs.Summary.{none_counted, summary_text};
 ghost use Rattle.vl_script_model.specs.Asking.{AsksForRow};
 ghost use Rattle.vl_script_model.specs.Endings.{CountsFaultsOf, TheSink};
@@ -18,6 +18,7 @@ ghost use Rattle.vl_script_model.specs.Trial.{begun};
 ghost use Rattle.vl_script_model.specs.Trying.{all_told};
 ghost use Rattle.vl_script_model.specs.declared.fails.Halt.TheVariants as halts;
 
+use crate::ending::{NO_MEMORY, finish};
 use crate::replayer::Replayer;
 use std::alloc::Global;
 use vl_disk::Disk;
@@ -25,7 +26,7 @@ use vl_io::Sink;
 use vl_mem::{SteadyReader, SureDisk};
 use vl_recover::OpenFail;
 use vl_script::{Gen, Summary, print_summary};
-use vl_script_model::{Ending, Halt, NO_MEMORY, finish};
+use vl_script_model::{Ending, Halt};
 
 /// Answers the lines that a seed and a number of rounds give, over an empty disk in memory, and prints a summary of the answers.
 pub fn bench<K: Sink>(alloc: Global, sink: &mut K, seed: u64, count: u32) -> Ending

@@ -7,7 +7,7 @@ ghost use Rattle.vl_steps.specs.Merging.{IsJustOpen};
 ghost use Rattle.vl_space.specs.Removing.{Removes};
 ghost use Rattle.vl_engine.specs.UnderWay.{IsUnderWay as MayGiveUp};
 ghost use Rattle.vl_engine_model.specs.declared.job.Job as laid;
-ghost use Rattle.vl_replay.specs.Drawn.{IsPlanned, Merged, drawn_all};
+ghost use Rattle.vl_replay_laws.specs.Drawn.{IsPlanned, Merged, drawn_all};
 ghost use Rattle.vl_script_model.specs.Failing.{ReaderFailed, beside};
 ghost use Rattle.vl_script_model.specs.Halts.{HaltsByDisk, HaltsByReader};
 ghost use Rattle.vl_replay.specs.Handed.{MayHandIn};

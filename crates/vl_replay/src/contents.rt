@@ -8,13 +8,13 @@ ghost use Rattle.vl_reads.specs.Sees.{SeesAlone};
 ghost use Rattle.vl_engine_model.specs.declared.layout.Layout.{Layout};
 ghost use Rattle.vl_model.specs.History.{History, contents_at, last_number};
 ghost use Rattle.vl_script_model.specs.Contents.{AreRead};
-ghost use Rattle.vl_script_model.specs.Text.{reopened_text};
+ghost use Rattle.vl_script.specs.Text.{reopened_text};
 
 use std::alloc::Global;
 use vl_disk::{Disk, HeldFile, Reader};
 use vl_engine::{Engine, ReadFail, Rows, View};
 use vl_model::Way;
-use vl_script_model::contents_text;
+use vl_script::contents_text;
 
 /// What is printed of a store that was just opened: the number of its last commit, and all that stands there. None where no view
 /// of it began, or some of it wasn't read.

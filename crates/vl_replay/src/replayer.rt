@@ -2,28 +2,22 @@
 ghost use Rattle.vl_replay.specs.Handed.{CanHandIn};
 
 mod beginning;
-pub mod choice;
 mod collecting;
 mod committing;
 mod dropping;
 mod lines;
 mod merging;
-pub mod open;
 mod opening;
-pub mod passing;
-pub mod planned;
 mod reading;
 mod stepping;
 mod sweeping;
 mod writing;
 
-use open::Open;
-use passing::Passing;
-use planned::Planned;
 use std::alloc::Global;
 use vl_cache::Cached;
 use vl_disk::Disk;
 use vl_engine::Engine;
+use vl_replay_laws::{Open, Passing, Planned};
 use vl_script_model::Halt;
 use vl_version::Base;
 

@@ -4,7 +4,7 @@ ghost use Rattle.vl_disk.specs.Crash.{Image};
 ghost use Rattle.vl_disk.specs.DiskState.{DiskState};
 ghost use Rattle.vl_disk.specs.Started.{IsRead};
 ghost use Rattle.vl_script_model.specs.Sequential.{State};
-ghost use Rattle.vl_replay.specs.Replaying.{StandsFor, TakesLines, disk_of};
+ghost use Rattle.vl_replay.specs.Served.{StandsFor, TakesLines, disk_of};
 ghost use Rattle.vl_script_model.specs.Exchanges.{exchange_at, state_behind};
 ghost use Rattle.vl_script_model.specs.Endings.{TheDisk, TheSink, TheSource, CountsFaultsOf, EndsAs, culprit_of, line_number};
 ghost use Rattle.std.specs.Option.{option_map};
@@ -21,15 +21,16 @@ ghost use Rattle.vl_script_model.specs.Reading.{AnswersText, HasRead, ReadsInput
 ghost use Rattle.vl_script_model.specs.Steps.{IsNext, PrintsStep, DiskSteps, kept, HasToDo, Steps, IsRefusedRun, EndsWithoutOpening};
 
 use crate::answering::{answer, end_at_bad_line};
+use crate::ending::{Ended, NO_MEMORY, READ_FAULT, finish};
+use crate::input::{Buffer, InputFail, read_line};
+use crate::refusing::end_unopened;
 use crate::replayer::Replayer;
 use std::alloc::Global;
 use vl_disk::Disk;
 use vl_io::{Sink, Source};
 use vl_recover::OpenFail;
-use vl_script_model::{
-    Buffer, Ended, Ending, InputFail, NO_MEMORY, Next, OnFault, READ_FAULT, end_unopened, finish,
-    read_line,
-};
+use vl_script::Next;
+use vl_script_model::{Ending, OnFault};
 
 /// A run under way: what was read and not yet answered, the store, and how many lines were answered.
 #[derive(Drop)]

@@ -9,11 +9,13 @@ ghost use Rattle.vl_model.specs.History.{History, last_number};
 ghost use Rattle.vl_script_model.specs.Endings.{TheSink, TheSource, CountsFaultsOf, culprit_of, status_of};
 ghost use Rattle.vl_engine.specs.Opening.{IsFault};
 ghost use Rattle.vl_script_model.specs.Reopens.{Reopens};
-ghost use Rattle.vl_replay.specs.Replaying.{StandsFor, TakesLines, disk_of};
+ghost use Rattle.vl_replay.specs.Served.{StandsFor, TakesLines, disk_of};
 ghost use Rattle.vl_script_model.specs.Trial.{EndsTrial};
 ghost use Rattle.vl_script_model.specs.Trying.{ComesTo, IsOnTrial, PassesAndReopens, ReopensAs, StopsOpening, all_told, trial_of};
 
 use crate::contents::store_text;
+use crate::ending::{Ended, NO_MEMORY, READ_FAULT, finish};
+use crate::refusing::end_unopened;
 use crate::replayer::Replayer;
 use crate::running::answer_lines;
 use std::alloc::Global;
@@ -23,7 +25,7 @@ use vl_io::{Sink, Source};
 use vl_mem::{Outcome, SteadyReader, StoppingDisk};
 use vl_model::MAX_ROOM;
 use vl_recover::{OpenError, OpenFail};
-use vl_script_model::{Ended, Ending, NO_MEMORY, OnFault, READ_FAULT, end_unopened, finish};
+use vl_script_model::{Ending, OnFault};
 
 /// Tries a script: answers the lines of a source over an empty disk in memory, of which each changing call behind so many
 /// fails. The line that meets the stop prints nothing, and the rest of the source is passed over. Then the store is opened

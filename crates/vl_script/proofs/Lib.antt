@@ -1,4 +1,7 @@
 pub mod DigitPairs
 pub mod FirstBytes
-pub mod Spelling
+mod Parsing
+mod Plain
 pub mod ScriptWords
+pub mod Spelling
+mod TextRows

@@ -3,3 +3,5 @@ pub mod Numbers
 pub mod Script
 pub mod Steps
 pub mod Summary
+pub mod Text
+pub mod Words

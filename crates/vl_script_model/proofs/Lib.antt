@@ -1,3 +1,0 @@
-mod Parsing
-mod Plain
-mod Refused

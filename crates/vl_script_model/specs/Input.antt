@@ -2,8 +2,8 @@
 use Rattle.std.specs.Prelude.{◌≡◌, ◌≢◌, ◌<◌, ℕ, Bool, true, false, List, [], ◌∷◌, ◌++◌, length, Option, Some, None}
 use Rattle.std.specs.List.{AllByRecursion}
 use Rattle.vl_script.specs.Script.{lines_of}
-use Rattle.vl_script_model.specs.declared.input.lines.Next.{Next}
-use Rattle.vl_script_model.specs.declared.input.lines.Next.TheVariants.{Line, LastLine, TooLong, End}
+use Rattle.vl_script.specs.declared.next.Next.{Next}
+use Rattle.vl_script.specs.declared.next.Next.TheVariants.{Line, LastLine, TooLong, End}
 use Rattle.vl_script.specs.Script.{longest_line}
 
 -- no byte of these ends a line

@@ -18,7 +18,5 @@ pub mod Start
 pub mod Steps
 pub mod Stopped
 pub mod Stored
-pub mod Text
 pub mod Trial
 pub mod Trying
-pub mod Words

@@ -1,7 +1,7 @@
 -- A trial: a script over a disk that stops, and what the store has that is opened on what a crash then leaves.
 use Rattle.std.specs.Prelude.{◌≡◌, ◌⊎◌, ◌+◌, ◌<◌, ◌≤◌, ℕ, nat_le, if◌then◌else◌, List, [], ◌∷◌, ◌++◌, length, take, Option, Some, None}
 use Rattle.std.specs.List.{slice_get}
-use Rattle.vl_script_model.specs.Text.{reopened_text}
+use Rattle.vl_script.specs.Text.{reopened_text}
 use Rattle.vl_io.specs.Sink.{Takes}
 use Rattle.vl_mem.specs.declared.outcome.Outcome.{Outcome}
 use Rattle.vl_model.specs.History.{contents_at, last_number}

@@ -1,6 +1,6 @@
 -- The stages of a trial: the opening, the run up to the stop, and the opening behind it.
 use Rattle.std.specs.Prelude.{◌≡◌, ◌⊎◌, ◌<◌, ◌≤◌, ℕ, List, [], Option, Some}
-use Rattle.vl_script_model.specs.Text.{reopened_text}
+use Rattle.vl_script.specs.Text.{reopened_text}
 use Rattle.vl_io.specs.Sink.{Takes}
 use Rattle.vl_io.specs.declared.sink.Sink as sink
 use Rattle.vl_mem.specs.CrashImage.{crash_image}

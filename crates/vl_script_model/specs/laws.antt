@@ -22,7 +22,6 @@ pub mod Staying
 pub mod Stepping
 pub mod StoppedLaws
 pub mod StoreText
-pub mod TextRows
 pub mod Texts
 pub mod Torn
 pub mod TornSteps

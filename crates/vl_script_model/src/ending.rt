@@ -1,17 +1,8 @@
-//! How a run ends, and what it puts last.
+//! How a run ends.
 ghost use Rattle.std.specs.Prelude.{◌≡◌};
-ghost use Rattle.vl_script_model.specs.Endings.{ending_at, line_at};
-ghost use Rattle.vl_script_model.specs.Steps.{Finishes};
 
 use crate::fails::Refusal;
 use vl_disk::Name;
-use vl_io::Sink;
-
-/// How a run ended, and the disk.
-pub struct Ended<D> {
-    pub ending: Ending,
-    pub disk: D,
-}
 
 /// How a run ended.
 #[derive(Clone, Copy, Debug, PartialEq, Eq)]
@@ -68,35 +59,5 @@ impl Ending {
             Ending::ReadFault => 6,
             Ending::WriteFault | Ending::AnswerCut => 7,
         }
-    }
-}
-
-/// The last line of a run whose words aren't plain.
-pub const USAGE: &[u8] =
-    b"usage: vlstore replay DIR, trial STOP OUTCOME, bench SEED COUNT or drive CLIENTS TXNS SEED\n";
-
-pub const DISK_FAULT: &[u8] = b"disk fault\n";
-
-pub const NO_MEMORY: &[u8] = b"no memory\n";
-
-pub const READ_FAULT: &[u8] = b"read fault\n";
-
-/// Puts a run's last line. Where it can't be put, the run ends by the sink's fault.
-pub fn finish<K: Sink>(sink: &mut K, line: &[u8], ending: Ending) -> Ending
-    ensures { Finishes K.Sink sink.old sink.new line.now ending result }
-{
-    match sink.put(line) {
-        Ok(()) => ending,
-        Err(_) => Ending::WriteFault,
-    }
-}
-
-/// Ends a run whose disk failed.
-pub fn end_at_fault<K: Sink>(sink: &mut K, on_fault: OnFault) -> Ending
-    ensures { Finishes K.Sink sink.old sink.new (line_at on_fault) (ending_at on_fault) result }
-{
-    match on_fault {
-        OnFault::Report => finish(sink, DISK_FAULT, Ending::DiskFault),
-        OnFault::Stop => Ending::Stopped,
     }
 }

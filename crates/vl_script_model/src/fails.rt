@@ -1,9 +1,9 @@
-//! What this crate's calls fail by.
+//! Why a store isn't opened, and why a line is given no answer.
 ghost use Rattle.std.specs.Prelude.{◌≡◌};
 
 use std::alloc::{AllocError, AllocFailed};
 use thiserror::Error;
-use vl_disk::{Failed, Name, NoMemory};
+use vl_disk::{Name, NoMemory};
 use vl_model::Counter;
 
 /// Why what stands on a disk isn't opened.
@@ -63,44 +63,5 @@ impl From<NoMemory> for Halt {
 
     fn from(_: NoMemory) -> Halt {
         Halt::NoMemory
-    }
-}
-
-/// Why no line could be read.
-#[derive(Clone, Copy, Debug, PartialEq, Eq)]
-pub enum InputFail {
-    /// Memory ran out.
-    NoMemory,
-    /// The source failed.
-    Fault,
-}
-
-impl From<AllocError> for InputFail {
-    ghost use Rattle.vl_script_model.specs.declared.fails.InputFail.TheVariants.{NoMemory};
-
-    ghost from_gives = { λ _ e. e ≡ NoMemory };
-
-    fn from(_: AllocError) -> Self {
-        InputFail::NoMemory
-    }
-}
-
-impl<T: Drop> From<AllocFailed<T>> for InputFail {
-    ghost use Rattle.vl_script_model.specs.declared.fails.InputFail.TheVariants.{NoMemory};
-
-    ghost from_gives = { λ _ e. e ≡ NoMemory };
-
-    fn from(_: AllocFailed<T>) -> Self {
-        InputFail::NoMemory
-    }
-}
-
-impl From<Failed> for InputFail {
-    ghost use Rattle.vl_script_model.specs.declared.fails.InputFail.TheVariants.{Fault};
-
-    ghost from_gives = { λ _ e. e ≡ Fault };
-
-    fn from(_: Failed) -> Self {
-        InputFail::Fault
     }
 }

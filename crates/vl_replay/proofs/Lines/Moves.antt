@@ -22,12 +22,12 @@ use Rattle.vl_model.specs.declared.log_frame.Moved.{Moved}
 use Rattle.vl_version.specs.declared.base.Base.{Base}
 use Rattle.vl_script_model.specs.declared.fails.Halt.{Halt}
 use Rattle.vl_replay.specs.Handed.{CanHandIn, KeepsLent}
-use Rattle.vl_replay.specs.Replaying.{Merges, Waits}
-use Rattle.vl_replay.specs.declared.replayer.planned.Planned.{Planned}
+use Rattle.vl_replay_laws.specs.Replaying.{Merges, Waits}
+use Rattle.vl_replay_laws.specs.declared.planned.Planned.{Planned}
 use Rattle.vl_replay.proofs.Merges.Handing.{can_still}
-use Rattle.vl_replay.proofs.Merges.Keeping.{SameJobs, same_jobs}
-use Rattle.vl_replay.proofs.Passes.Moving.{leaves_so}
-use Rattle.vl_replay.proofs.Passes.Named.{jobs_beside, pass_no_job}
+use Rattle.vl_replay_laws.specs.laws.Merges.Keeping.{SameJobs, same_jobs}
+use Rattle.vl_replay_laws.specs.laws.Passes.Moving.{leaves_so}
+use Rattle.vl_replay_laws.specs.laws.Passes.Named.{jobs_beside, pass_no_job}
 
 -- ---- what the layout has of it
 

@@ -5,10 +5,10 @@ use Rattle.vl_disk.specs.declared.watched.Watched.{Ghosts}
 use Rattle.vl_disk.specs.declared.writer.Writer.{Ghosts as Writers}
 use Rattle.vl_version.specs.declared.base.Base.{Base}
 use Rattle.vl_script_model.specs.Sequential.{State}
-use Rattle.vl_replay.specs.Replaying.{StandsMerging, StandsPassing, StandsRemoving, StandsWith}
+use Rattle.vl_replay.specs.Served.{StandsMerging, StandsPassing, StandsRemoving, StandsWith}
 use Rattle.vl_replay.specs.declared.replayer.Served.{Served}
-use Rattle.vl_replay.specs.declared.replayer.passing.Passing.{Passing}
-use Rattle.vl_replay.specs.declared.replayer.planned.Planned.{Planned}
+use Rattle.vl_replay_laws.specs.declared.passing.Passing.{Passing}
+use Rattle.vl_replay_laws.specs.declared.planned.Planned.{Planned}
 
 module _ {D Held Reader Writer : Type 0} {watched : _} {held : _} {cloned : _} {read : _} {write : _} {w : _}
     {g : Ghosts D} {writers : Writers Writer} {bytes : Held → Option (List ℕ)}

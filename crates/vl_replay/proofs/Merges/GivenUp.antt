@@ -31,20 +31,20 @@ use Rattle.vl_model.specs.History.{History}
 use Rattle.vl_model.specs.Limits.{max_file_number}
 use Rattle.vl_model.specs.declared.counter.Counter.{Counter}
 use Rattle.vl_version.specs.declared.base.Base.{Base}
-use Rattle.vl_replay.specs.Choosing.{line_for}
-use Rattle.vl_replay.specs.declared.replayer.choice.Choice.{Choice}
-use Rattle.vl_replay.specs.Drawn.{DrawsOn, EndsMerging, IsServing, Merged, drawn_all, drawn_state, numbers_from}
+use Rattle.vl_replay_laws.specs.Choosing.{line_for}
+use Rattle.vl_replay_laws.specs.declared.choice.Choice.{Choice}
+use Rattle.vl_replay_laws.specs.Drawn.{DrawsOn, EndsMerging, IsServing, Merged, drawn_all, drawn_state, numbers_from}
 use Rattle.vl_script_model.specs.Durable.{CarriesOut, CrashesShow, HoldsState, LeadsTo}
 use Rattle.vl_script_model.specs.Failing.{FailsAt, HasTables}
 use Rattle.vl_script_model.specs.Halts.{HaltsByDamage, HaltsByDisk, HaltsByRead, HaltsByReader}
-use Rattle.vl_replay.specs.Replaying.{MakesStep, Merges, StandsIn, state_by_plan}
+use Rattle.vl_replay_laws.specs.Replaying.{MakesStep, Merges, StandsIn, state_by_plan}
 use Rattle.vl_script_model.specs.Sequential.{State, history_of, state_after, step_to}
 use Rattle.vl_script_model.specs.Stopped.{AreNumberedUpTo}
 use Rattle.vl_script_model.specs.Stored.{IsStopped, IsStored}
 use Rattle.vl_script_model.specs.declared.fails.Halt.{Halt}
 use Rattle.vl_script_model.specs.declared.fails.Halt.TheVariants as halts
-use Rattle.vl_replay.specs.declared.replayer.open.Open.{Open}
-use Rattle.vl_replay.specs.Standing.{open_in}
+use Rattle.vl_replay_laws.specs.declared.open.Open.{Open}
+use Rattle.vl_replay_laws.specs.Standing.{open_in}
 use Rattle.vl_script.specs.declared.answer.Answer.{Answer}
 use Rattle.vl_script.specs.declared.answer.Answer.TheVariants as answers
 use Rattle.vl_script_model.specs.laws.Betweens.{extends_same}
@@ -53,13 +53,13 @@ use Rattle.vl_script_model.specs.laws.HeldDisk.{stored_by}
 use Rattle.vl_script_model.specs.laws.ShownDisk.{shown_stays, stored_exactly}
 use Rattle.vl_replay.proofs.CarryingLists.{next_drawn}
 use Rattle.vl_replay.proofs.CarryingRemoved.{LeavesDrawn}
-use Rattle.vl_replay.proofs.Merges.Carrying.{halted_leads}
-use Rattle.vl_replay.proofs.Merges.Choosing.{behind_for, commits_for, fails_for}
-use Rattle.vl_replay.proofs.Merges.Filling.{drawn_next}
-use Rattle.vl_replay.proofs.Merges.Planned.{Plans}
+use Rattle.vl_replay_laws.specs.laws.Merges.Carrying.{halted_leads}
+use Rattle.vl_replay_laws.specs.laws.Merges.Choosing.{behind_for, commits_for, fails_for}
+use Rattle.vl_replay_laws.specs.laws.Merges.Filling.{drawn_next}
+use Rattle.vl_replay_laws.specs.laws.Merges.Planned.{Plans}
 use Rattle.vl_replay.proofs.Merges.PlanLine.{WasMerged}
-use Rattle.vl_replay.proofs.Merges.Planning.{given_up, given_up_is, given_up_makes, given_up_waits, lent_there, made}
-use Rattle.vl_replay.proofs.Merges.Planning.{planned_state, some_lent, total_of, whole_is}
+use Rattle.vl_replay_laws.specs.laws.Merges.Planning.{given_up, given_up_is, given_up_makes, given_up_waits, lent_there, made}
+use Rattle.vl_replay_laws.specs.laws.Merges.Planning.{planned_state, some_lent, total_of, whole_is}
 
 -- where none waits there is none
 pub none_of : {T : Type 0} (o : Option T) → is_some o ≡ false → o ≡ None

@@ -17,7 +17,7 @@ use Rattle.vl_engine_model.specs.Jobs.{AreDistinct}
 use Rattle.vl_model.specs.Numbers.{has}
 use Rattle.vl_replay.specs.Handed.{CanHandIn, MayHandIn, are_distinct}
 use Rattle.vl_script_model.specs.declared.fails.Halt.{Halt}
-use Rattle.vl_replay.specs.declared.replayer.planned.Planned.{Planned}
+use Rattle.vl_replay_laws.specs.declared.planned.Planned.{Planned}
 
 none_some : {T : Type 0} (x : T) → None ≡ Some x → ⊥
 none_some x e = cc

@@ -74,35 +74,35 @@ use Rattle.vl_script_model.specs.Durable.{CarriesOut, CrashesShow, HoldsCommits,
 use Rattle.vl_script_model.specs.Failing.{IsTableOf}
 use Rattle.vl_script_model.specs.Halts.{HaltsByDisk, HaltsByRead}
 use Rattle.vl_replay.specs.Handed.{CanHandIn}
-use Rattle.vl_replay.specs.Replaying.{IsWaiting, MakesStep, Merges, StandsIn, TakesPlanned, Waits, state_by}
+use Rattle.vl_replay_laws.specs.Replaying.{IsWaiting, MakesStep, Merges, StandsIn, TakesPlanned, Waits, state_by}
 use Rattle.vl_script_model.specs.Sequential.{IsTold, State, history_of, state_after, step_to, without_lengths}
-use Rattle.vl_replay.specs.Standing.{Corresponds, Stand, open_in}
+use Rattle.vl_replay_laws.specs.Standing.{Corresponds, Stand, open_in}
 use Rattle.vl_script_model.specs.Stopped.{AreNumberedUpTo, StopsStep, step_failed}
 use Rattle.vl_script_model.specs.Stored.{IsStopped, IsStored}
 use Rattle.vl_script_model.specs.declared.fails.Halt.{Halt}
 use Rattle.vl_script_model.specs.declared.fails.Halt.TheVariants as why
-use Rattle.vl_replay.specs.declared.replayer.open.Open.{Open}
-use Rattle.vl_replay.specs.declared.replayer.open.Thing.{Thing as OpenThing}
-use Rattle.vl_replay.specs.declared.replayer.open.Thing.TheVariants.{Transaction, View}
-use Rattle.vl_replay.specs.declared.replayer.planned.Planned.{Planned}
+use Rattle.vl_replay_laws.specs.declared.open.Open.{Open}
+use Rattle.vl_replay_laws.specs.declared.open.Thing.{Thing as OpenThing}
+use Rattle.vl_replay_laws.specs.declared.open.Thing.TheVariants.{Transaction, View}
+use Rattle.vl_replay_laws.specs.declared.planned.Planned.{Planned}
 use Rattle.vl_script_model.specs.laws.Growing.{Keeps}
 use Rattle.vl_script_model.specs.laws.Laws.{IsSound, state_after-sound}
 use Rattle.vl_script.specs.declared.answer.Answer.{Answer}
 use Rattle.vl_script.specs.declared.answer.Answer.TheVariants as answers
 use Rattle.vl_script.specs.declared.line.Line.TheVariants as lines
 use Rattle.vl_script_model.specs.laws.Betweens.{extends_itself}
-use Rattle.vl_replay.proofs.Disk.Carried.{quiet_carries}
+use Rattle.vl_replay_laws.specs.laws.Disk.Carried.{quiet_carries}
 use Rattle.vl_script_model.specs.laws.DiskSteps.{IsWatched}
 use Rattle.vl_script_model.specs.laws.HeldDisk.{stored_by}
-use Rattle.vl_replay.proofs.Disk.Stepped.{at_each, at_most}
+use Rattle.vl_replay_laws.specs.laws.Disk.Stepped.{at_each, at_most}
 use Rattle.vl_replay.proofs.Merges.Handing.{handed_back, handed_in}
-use Rattle.vl_replay.proofs.Merges.Installs.{InstallsOf, IsNoHalt, install_installs}
-use Rattle.vl_replay.proofs.Names.Untabled.{pinned_up_to}
-use Rattle.vl_replay.proofs.Names.Ending.{still_stands}
-use Rattle.vl_replay.proofs.Names.Lookups.{taken_none, thing_gone, thing_left}
-use Rattle.vl_replay.proofs.Names.Making.{only_makes}
-use Rattle.vl_replay.proofs.Names.Serving.{represents}
-use Rattle.vl_replay.proofs.Names.Standings.{same_or_not, stands_without}
+use Rattle.vl_replay_laws.specs.laws.Merges.Installs.{InstallsOf, IsNoHalt, install_installs}
+use Rattle.vl_replay_laws.specs.laws.Names.Untabled.{pinned_up_to}
+use Rattle.vl_replay_laws.specs.laws.Names.Ending.{still_stands}
+use Rattle.vl_replay_laws.specs.laws.Names.Lookups.{taken_none, thing_gone, thing_left}
+use Rattle.vl_replay_laws.specs.laws.Names.Making.{only_makes}
+use Rattle.vl_replay_laws.specs.laws.Names.Serving.{represents}
+use Rattle.vl_replay_laws.specs.laws.Names.Standings.{same_or_not, stands_without}
 use Rattle.vl_script_model.specs.laws.TornSteps.{settled_torn, switching_torn}
 
 none_some : {T : Type 0} (x : T) → None ≡ Some x → ⊥

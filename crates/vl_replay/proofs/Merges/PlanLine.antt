@@ -30,32 +30,32 @@ use Rattle.vl_model.specs.History.{History}
 use Rattle.vl_model.specs.Limits.{max_file_number}
 use Rattle.vl_model.specs.declared.counter.Counter.{Counter}
 use Rattle.vl_version.specs.declared.base.Base.{Base}
-use Rattle.vl_replay.specs.Choosing.{chosen, line_for}
-use Rattle.vl_replay.specs.declared.replayer.choice.Choice.{Choice}
-use Rattle.vl_replay.specs.Drawn.{EndsMerging, HasTablesFrom, IsPlanned, IsServing, Merged, drawn_state}
+use Rattle.vl_replay_laws.specs.Choosing.{chosen, line_for}
+use Rattle.vl_replay_laws.specs.declared.choice.Choice.{Choice}
+use Rattle.vl_replay_laws.specs.Drawn.{EndsMerging, HasTablesFrom, IsPlanned, IsServing, Merged, drawn_state}
 use Rattle.vl_script_model.specs.Durable.{CarriesOut, HoldsState}
 use Rattle.vl_script_model.specs.Halts.{HaltsByDisk}
 use Rattle.vl_replay.specs.Handed.{CanHandIn, MayHandIn}
-use Rattle.vl_replay.specs.Replaying.{MakesStep, Merges, StandsIn, Waits, state_by_plan}
+use Rattle.vl_replay_laws.specs.Replaying.{MakesStep, Merges, StandsIn, Waits, state_by_plan}
 use Rattle.vl_script_model.specs.Sequential.{IsTold, State, history_of, state_after, step_to}
-use Rattle.vl_replay.specs.Standing.{open_in}
+use Rattle.vl_replay_laws.specs.Standing.{open_in}
 use Rattle.vl_script_model.specs.Stored.{IsStopped, IsStored}
 use Rattle.vl_script_model.specs.declared.fails.Halt.{Halt}
-use Rattle.vl_replay.specs.declared.replayer.open.Open.{Open}
-use Rattle.vl_replay.specs.declared.replayer.planned.Planned.{Planned}
+use Rattle.vl_replay_laws.specs.declared.open.Open.{Open}
+use Rattle.vl_replay_laws.specs.declared.planned.Planned.{Planned}
 use Rattle.vl_script.specs.declared.answer.Answer.{Answer}
 use Rattle.vl_script.specs.declared.answer.Answer.TheVariants as answers
-use Rattle.vl_replay.proofs.Disk.Carried.{quiet_carries}
+use Rattle.vl_replay_laws.specs.laws.Disk.Carried.{quiet_carries}
 use Rattle.vl_script_model.specs.laws.DiskSteps.{IsWatched}
-use Rattle.vl_replay.proofs.Merges.Carrying.{planned_held, whole_leads}
-use Rattle.vl_replay.proofs.Merges.Choosing.{behind_for, counted_step, step_for}
-use Rattle.vl_replay.proofs.Merges.Keeping.{KeepsMerges, same_jobs}
-use Rattle.vl_replay.proofs.Merges.Opened.{opened_planned}
-use Rattle.vl_replay.proofs.Merges.Planned.{Plans, plan_busy, plan_none, plan_some}
+use Rattle.vl_replay_laws.specs.laws.Merges.Carrying.{planned_held, whole_leads}
+use Rattle.vl_replay_laws.specs.laws.Merges.Choosing.{behind_for, counted_step, step_for}
+use Rattle.vl_replay_laws.specs.laws.Merges.Keeping.{KeepsMerges, same_jobs}
+use Rattle.vl_replay_laws.specs.laws.Merges.Opened.{opened_planned}
+use Rattle.vl_replay_laws.specs.laws.Merges.Planned.{Plans, plan_busy, plan_none, plan_some}
 use Rattle.vl_replay.proofs.CarryingLists.{next_drawn}
 use Rattle.vl_replay.proofs.CarryingRemoved.{LeavesDrawn}
-use Rattle.vl_replay.proofs.Merges.Planning.{planned_state, whole_is, whole_makes, whole_waits}
-use Rattle.vl_replay.proofs.Merges.Waiting.{merges_behind}
+use Rattle.vl_replay_laws.specs.laws.Merges.Planning.{planned_state, whole_is, whole_makes, whole_waits}
+use Rattle.vl_replay_laws.specs.laws.Merges.Waiting.{merges_behind}
 
 -- ---- none is planned
 

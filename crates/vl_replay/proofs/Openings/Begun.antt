@@ -21,13 +21,13 @@ use Rattle.vl_model.specs.Limits.{max_room}
 use Rattle.vl_recover.specs.crash.Meanwhile.{IsRepaired}
 use Rattle.vl_recover.specs.opening.Answers.{calls_to_open}
 use Rattle.vl_script_model.specs.Durable.{HoldsState}
-use Rattle.vl_replay.specs.Passing.{PassesIn}
-use Rattle.vl_replay.specs.Replaying.{StandsIn}
+use Rattle.vl_replay_laws.specs.Passing.{PassesIn}
+use Rattle.vl_replay_laws.specs.Replaying.{StandsIn}
 use Rattle.vl_script_model.specs.Sequential.{State, history_of}
-use Rattle.vl_replay.specs.Standing.{Stand}
+use Rattle.vl_replay_laws.specs.Standing.{Stand}
 use Rattle.vl_script_model.specs.Start.{StartsIn, start_proper}
 use Rattle.vl_script_model.specs.Stored.{IsStored}
-use Rattle.vl_replay.specs.declared.replayer.open.Open.{Open}
+use Rattle.vl_replay_laws.specs.declared.open.Open.{Open}
 use Rattle.vl_script_model.specs.laws.Explained.{none_sound}
 use Rattle.vl_script_model.specs.laws.HeldDisk.{stored_by}
 use Rattle.vl_script_model.specs.laws.Recovering.{opened_numbered}

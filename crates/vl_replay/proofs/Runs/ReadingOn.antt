@@ -22,7 +22,7 @@ use Rattle.vl_script_model.specs.Reading.{ReadsInput, HasRead, ReadsOn, EndsBadl
 use Rattle.vl_script_model.specs.Steps.{EndsAtDamage, Finishes, FinishesBy}
 use Rattle.vl_script_model.specs.declared.ending.Ending.{Ending}
 use Rattle.vl_script_model.specs.declared.ending.Ending.TheVariants.{Complete, BadLine, Damaged, NoMemory, ReaderFault, WriteFault}
-use Rattle.vl_script_model.specs.declared.input.lines.Next.TheVariants.{Line as WholeLine, LastLine, TooLong}
+use Rattle.vl_script.specs.declared.next.Next.TheVariants.{Line as WholeLine, LastLine, TooLong}
 use Rattle.vl_script_model.specs.laws.Ends.{ended_lines-line, keeps_up_after, takes_both, takes_nothing, or_cut}
 use Rattle.vl_script_model.specs.laws.ReadLines.{lines_of-ended, lines_of-unended}
 use Rattle.vl_replay.proofs.Runs.OpenedRuns.{of_unopened}

@@ -31,7 +31,7 @@ use Rattle.vl_mem.specs.CrashImage.{crash_image}
 use Rattle.vl_model.specs.History.{last_number}
 use Rattle.vl_script_model.specs.Reopens.{Reopens}
 use Rattle.vl_disk.specs.declared.writer.Writer.{Ghosts as Writers}
-use Rattle.vl_replay.specs.Replaying.{StandsFor, disk_of}
+use Rattle.vl_replay.specs.Served.{StandsFor, disk_of}
 use Rattle.vl_script_model.specs.Start.{StartsIn}
 use Rattle.vl_engine_laws.specs.Found.{IsDurable}
 use Rattle.vl_script_model.specs.laws.StartLaws.{empty_stay, finds_nothing, no_commits, started_durable, starts_empty}

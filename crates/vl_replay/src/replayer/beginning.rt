@@ -2,13 +2,14 @@
 ghost use Rattle.std.specs.Prelude.{◌≡◌, None, OnOk};
 ghost use Rattle.vl_engine_model.specs.Store.Reading.{a_transaction, a_view, begin_as};
 ghost use Rattle.vl_engine_model.specs.Store.Things.{thing_of};
-ghost use Rattle.vl_replay.specs.Replaying.{MakesStep, OnlyNoMemory, RemovesIn, ServesFor};
+ghost use Rattle.vl_replay_laws.specs.Replaying.{MakesStep, OnlyNoMemory};
+ghost use Rattle.vl_replay.specs.Served.{RemovesIn, ServesFor};
 ghost use Rattle.vl_script_model.specs.Sequential.{State};
 
 use crate::replayer::Served;
-use crate::replayer::open::{Thing, put};
 use vl_disk::Disk;
 use vl_engine::BeginFail;
+use vl_replay_laws::{Thing, put};
 use vl_script::{Answer, Ident};
 use vl_script_model::Halt;
 

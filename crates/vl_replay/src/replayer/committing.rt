@@ -9,16 +9,17 @@ ghost use Rattle.vl_engine_model.specs.Store.Reading.{commit_by};
 ghost use Rattle.vl_engine_model.specs.Store.Things.{thing_of};
 ghost use Rattle.vl_script_model.specs.Durable.{CarriesOut};
 ghost use Rattle.vl_script_model.specs.Halts.{HaltsByDisk, HaltsByRead};
-ghost use Rattle.vl_replay.specs.Replaying.{MakesStep, RemovesIn, ServesFor, state_by};
+ghost use Rattle.vl_replay_laws.specs.Replaying.{MakesStep, state_by};
+ghost use Rattle.vl_replay.specs.Served.{RemovesIn, ServesFor};
 ghost use Rattle.vl_script_model.specs.Sequential.{State};
 ghost use Rattle.vl_script_model.specs.Stored.{IsStopped, IsStored};
 ghost use Rattle.vl_script_model.specs.declared.fails.Halt.TheVariants as halts;
 
 use crate::replayer::Served;
-use crate::replayer::open::{Thing, put, take_out};
 use vl_disk::Disk;
 use vl_engine::{CommitFail, Done};
 use vl_model::Counter;
+use vl_replay_laws::{Thing, put, take_out};
 use vl_script::{Answer, Ident};
 use vl_script_model::Halt;
 

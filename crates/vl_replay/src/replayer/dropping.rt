@@ -2,13 +2,14 @@
 ghost use Rattle.std.specs.Prelude.{◌≡◌, Ok};
 ghost use Rattle.vl_engine_model.specs.Store.Dispatch.{drop_by};
 ghost use Rattle.vl_engine_model.specs.Store.Things.{thing_of};
-ghost use Rattle.vl_replay.specs.Passing.{NamesNoPass};
-ghost use Rattle.vl_replay.specs.Replaying.{MakesStep, NamesNoMerge, RemovesIn, ServesFor};
+ghost use Rattle.vl_replay_laws.specs.Passing.{NamesNoPass};
+ghost use Rattle.vl_replay_laws.specs.Replaying.{MakesStep, NamesNoMerge};
+ghost use Rattle.vl_replay.specs.Served.{RemovesIn, ServesFor};
 ghost use Rattle.vl_script_model.specs.Sequential.{State};
 
 use crate::replayer::Served;
-use crate::replayer::open::{Thing, take_out};
 use vl_disk::Disk;
+use vl_replay_laws::{Thing, take_out};
 use vl_script::{Answer, Ident};
 
 impl<D: Disk> Served<D> {

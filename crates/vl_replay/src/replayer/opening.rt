@@ -15,7 +15,7 @@ ghost use Rattle.vl_recover.specs.opening.Results.{recovery_by};
 ghost use Rattle.vl_script_model.specs.Durable.{CrashesShow, HoldsState, IsAsBefore, StillTells, Tells};
 ghost use Rattle.vl_script_model.specs.Opening.{IsRefused};
 ghost use Rattle.vl_replay.specs.Opened.{disk_behind};
-ghost use Rattle.vl_replay.specs.Replaying.{StandsFor, TakesLines, disk_of};
+ghost use Rattle.vl_replay.specs.Served.{StandsFor, TakesLines, disk_of};
 ghost use Rattle.vl_script_model.specs.Sequential.{State, history_of};
 ghost use Rattle.vl_script_model.specs.Start.{StartsIn};
 ghost use Rattle.vl_script_model.specs.Stored.{IsStored};

@@ -5,16 +5,17 @@ ghost use Rattle.vl_engine_model.specs.Store.Things.{thing_of};
 ghost use Rattle.vl_script_model.specs.Failing.{ReaderFailed};
 ghost use Rattle.vl_script_model.specs.Halts.{HaltsByDamage, HaltsByDisk, HaltsByReader};
 ghost use Rattle.vl_script_model.specs.Readers.{IsWithoutTables};
-ghost use Rattle.vl_replay.specs.Replaying.{MakesStep, OnlyNoMemory, ServesFor};
+ghost use Rattle.vl_replay_laws.specs.Replaying.{MakesStep, OnlyNoMemory};
+ghost use Rattle.vl_replay.specs.Served.{ServesFor};
 ghost use Rattle.vl_script_model.specs.Sequential.{State};
-ghost use Rattle.vl_replay.specs.Standing.{tell_of, told_by, told_past, told_value};
+ghost use Rattle.vl_replay_laws.specs.Standing.{tell_of, told_by, told_past, told_value};
 ghost use Rattle.vl_script.specs.declared.answer.Answer.TheVariants.{Rows as TheRows};
 
 use crate::replayer::Served;
-use crate::replayer::open::{Thing, place};
 use vl_disk::Disk;
 use vl_engine::{AtFail, ReadFail, Rows};
 use vl_model::{Bytes, Value, Way};
+use vl_replay_laws::{Thing, place};
 use vl_script::{Answer, Ident};
 use vl_script_model::Halt;
 

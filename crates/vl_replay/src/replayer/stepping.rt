@@ -12,9 +12,10 @@ ghost use Rattle.vl_engine_model.specs.Rulings.Rotate.{rotate_ruling};
 ghost use Rattle.vl_engine_model.specs.Store.Dispatch.{keep_by, step_by};
 ghost use Rattle.vl_script_model.specs.Durable.{CarriesOut};
 ghost use Rattle.vl_script_model.specs.Halts.{HaltsByDisk, HaltsByRead};
-ghost use Rattle.vl_replay.specs.Replaying.{MakesStep, RemovesIn, ServesFor, StandsRemoving, state_by, state_by_step};
+ghost use Rattle.vl_replay_laws.specs.Replaying.{MakesStep, state_by, state_by_step};
+ghost use Rattle.vl_replay.specs.Served.{RemovesIn, ServesFor, StandsRemoving};
 ghost use Rattle.vl_script_model.specs.Sequential.{State, history_of};
-ghost use Rattle.vl_replay.specs.Standing.{told_keep, told_step};
+ghost use Rattle.vl_replay_laws.specs.Standing.{told_keep, told_step};
 ghost use Rattle.vl_script_model.specs.Stored.{IsStopped, IsStored};
 ghost use Rattle.vl_script_model.specs.declared.fails.Halt.TheVariants as halts;
 

@@ -11,9 +11,10 @@ ghost use Rattle.vl_engine_model.specs.Stock.{is_in};
 ghost use Rattle.vl_engine_model.specs.Store.Dispatch.{sweep_by};
 ghost use Rattle.vl_script_model.specs.Durable.{CarriesOut};
 ghost use Rattle.vl_script_model.specs.Halts.{HaltsByDisk, HaltsByRead};
-ghost use Rattle.vl_replay.specs.Replaying.{MakesStep, RemovesIn, StandsRemoving, state_by};
+ghost use Rattle.vl_replay_laws.specs.Replaying.{MakesStep, state_by};
+ghost use Rattle.vl_replay.specs.Served.{RemovesIn, StandsRemoving};
 ghost use Rattle.vl_script_model.specs.Sequential.{State, history_of};
-ghost use Rattle.vl_replay.specs.Standing.{told_sweep};
+ghost use Rattle.vl_replay_laws.specs.Standing.{told_sweep};
 ghost use Rattle.vl_script_model.specs.Stored.{IsStopped, IsStored};
 ghost use Rattle.vl_script_model.specs.declared.fails.Halt.TheVariants as halts;
 

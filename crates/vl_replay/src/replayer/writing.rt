@@ -6,16 +6,17 @@ ghost use Rattle.vl_engine_model.specs.Store.Reading.{write_by};
 ghost use Rattle.vl_engine_model.specs.Store.Things.{thing_of};
 ghost use Rattle.vl_model.specs.History.{History};
 ghost use Rattle.vl_model.specs.Reads.{Read};
-ghost use Rattle.vl_replay.specs.Replaying.{MakesStep, OnlyNoMemory, ServesFor};
+ghost use Rattle.vl_replay_laws.specs.Replaying.{MakesStep, OnlyNoMemory};
+ghost use Rattle.vl_replay.specs.Served.{ServesFor};
 ghost use Rattle.vl_script_model.specs.Sequential.{State};
-ghost use Rattle.vl_replay.specs.Standing.{change_of, told_write};
+ghost use Rattle.vl_replay_laws.specs.Standing.{change_of, told_write};
 ghost use Rattle.vl_txn.specs.Refusals.{IsWritten};
 
 use crate::replayer::Served;
-use crate::replayer::open::{Thing, place};
 use vl_disk::{Disk, HeldFile, Reader};
 use vl_engine::{SetFail, Txn};
 use vl_model::Bytes;
+use vl_replay_laws::{Thing, place};
 use vl_script::{Answer, Ident};
 use vl_script_model::Halt;
 

@@ -13,8 +13,8 @@ use Rattle.vl_script_model.specs.Endings.{Evidence, line_number}
 use Rattle.vl_script_model.specs.Runs.{Script, exchanges, Outside, EvidenceOf, EndsRun}
 use Rattle.vl_script_model.specs.Durable.{Holding, LeavesItsHistory, StaysShown, HoldsState, DiskEnds, DiskEndsFrom}
 use Rattle.vl_script_model.specs.Steps.{IsNext, EndsBefore, PrintsStep, MovesOn, DiskSteps, kept, Steps}
-use Rattle.vl_script_model.specs.declared.input.lines.Next.{Next}
-use Rattle.vl_script_model.specs.declared.input.lines.Next.TheVariants.{Line as WholeLine, LastLine}
+use Rattle.vl_script.specs.declared.next.Next.{Next}
+use Rattle.vl_script.specs.declared.next.Next.TheVariants.{Line as WholeLine, LastLine}
 use Rattle.vl_script_model.specs.declared.ending.Ending.{Ending}
 use Rattle.vl_script_model.specs.declared.ending.Ending.TheVariants.{Complete}
 use Rattle.vl_script_model.specs.laws.ReadLines.{lines_of-ended, lines_of-unended}

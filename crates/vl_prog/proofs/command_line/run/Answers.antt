@@ -3,8 +3,8 @@ use Rattle.vl_mem.specs.declared.outcome.Outcome.{Outcome}
 use Rattle.vl_engine_model.specs.Store.Commits.{AreProper}
 use Rattle.vl_script_model.specs.Trial.{EndsTrial, begun}
 use Rattle.vl_script_model.specs.Trying.{trial_of}
-use Rattle.vl_script_model.specs.declared.words.Command.{Command}
-use Rattle.vl_script_model.specs.declared.words.Command.TheVariants.{Bench, Drive, Replay, Trial}
+use Rattle.vl_script.specs.declared.words.Command.{Command}
+use Rattle.vl_script.specs.declared.words.Command.TheVariants.{Bench, Drive, Replay, Trial}
 use Rattle.vl_script.specs.Script.{lines_of}
 use Rattle.vl_script_model.specs.Endings.{CountsFaultsOf, TheDisk, TheSource, TheSink, status_of, usage_line}
 use Rattle.vl_disk.specs.Faults.{Rose}

@@ -7,7 +7,7 @@ use Rattle.vl_script_model.specs.Runs.{next_number}
 use Rattle.vl_script_model.specs.Endings.{OnlyByDisk, TheSink, TheSource, culprit_of, disk_fault_line, ending_at, line_at}
 use Rattle.vl_script_model.specs.Endings.{no_memory_line, TheDisk}
 use Rattle.vl_script_model.specs.Halts.{HaltsByDisk}
-use Rattle.vl_replay.specs.Replaying.{disk_of}
+use Rattle.vl_replay.specs.Served.{disk_of}
 use Rattle.vl_script_model.specs.declared.ending.Ending.{Ending}
 use Rattle.vl_script_model.specs.declared.ending.Ending.TheVariants.{AnswerCut, BadWords, NoMemory, ReaderFault, Refused}
 use Rattle.vl_script_model.specs.laws.Ends.{answer_cut, finished, finish_counts, before_weaker, at_damage, at_fault}

@@ -3,7 +3,7 @@ use Rattle.std.specs.Prelude.{Err, is_ok, is_err}
 use Rattle.std.specs.Option.{option_map}
 use Rattle.vl_script.specs.Script.{text_of}
 use Rattle.vl_script_model.specs.Exchanges.{exchanged}
-use Rattle.vl_replay.specs.Replaying.{disk_of}
+use Rattle.vl_replay.specs.Served.{disk_of}
 use Rattle.vl_script_model.specs.Sequential.{answer_to}
 use Rattle.vl_script_model.specs.declared.fails.Halt.TheVariants as why
 use Rattle.vl_script_model.specs.laws.AskingLaws.{line_asks}

@@ -7,7 +7,7 @@ use Rattle.vl_script.specs.declared.summary.Summary.{Summary}
 use Rattle.vl_script_model.specs.Asking.{AsksForRow}
 use Rattle.vl_script_model.specs.Trial.{begun}
 use Rattle.vl_replay.specs.Benchmark.{exchanges_of, summed}
-use Rattle.vl_replay.specs.Replaying.{disk_of}
+use Rattle.vl_replay.specs.Served.{disk_of}
 use Rattle.vl_replay.proofs.Benchmarks.{bench_asks, out_of_memory}
 use Rattle.vl_replay.proofs.benchmark.answer_rounds.Goals as goal
 

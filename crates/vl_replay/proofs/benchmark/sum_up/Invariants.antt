@@ -4,7 +4,7 @@ use Rattle.vl_script.specs.Summary.{none_counted}
 use Rattle.vl_script_model.specs.Asking.{AsksForRow}
 use Rattle.vl_script_model.specs.Sequential.{State}
 use Rattle.vl_replay.specs.Benchmark.{exchanges_of, summed}
-use Rattle.vl_replay.specs.Replaying.{StandsFor, TakesLines, disk_of}
+use Rattle.vl_replay.specs.Served.{StandsFor, TakesLines, disk_of}
 use Rattle.vl_replay.proofs.benchmark.sum_up.Given as goal
 
 -- the answers to the lines that are left make the summary whole

@@ -1,6 +1,6 @@
 use Rattle.std.specs.Prelude.{◌≡◌, ◌-◌, ◌^◌, None}
 use Rattle.vl_engine_model.specs.declared.job.Job.{Job}
-use Rattle.vl_replay.specs.Drawn.{IsPlanned}
+use Rattle.vl_replay_laws.specs.Drawn.{IsPlanned}
 use Rattle.vl_replay.specs.Rounds.{HasLent}
 use Rattle.vl_script_model.specs.Sequential.{State}
 use Rattle.vl_space.specs.Removing.{Removes}

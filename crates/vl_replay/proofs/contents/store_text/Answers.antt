@@ -1,6 +1,6 @@
 use Rattle.std.proofs.Common.{◌≡◌, ℕ, Some, Vec, Global, refl, subst}
 use Rattle.vl_model.specs.History.{contents_at, last_number}
-use Rattle.vl_script_model.specs.Text.{reopened_text}
+use Rattle.vl_script.specs.Text.{reopened_text}
 use Rattle.vl_script_model.specs.laws.StoreText.{begun_last}
 use Rattle.vl_replay.proofs.contents.store_text.Goals as goal
 

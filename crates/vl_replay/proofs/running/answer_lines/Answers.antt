@@ -5,7 +5,7 @@ use Rattle.vl_script_model.specs.declared.ending.Ending.{Ending}
 use Rattle.vl_script_model.specs.declared.ending.OnFault.{OnFault}
 use Rattle.vl_script_model.specs.laws.Laws.{keeps_up_at_first}
 use Rattle.vl_script_model.specs.Reading.{HasRead, streams}
-use Rattle.vl_replay.specs.Replaying.{StandsFor, disk_of}
+use Rattle.vl_replay.specs.Served.{StandsFor, disk_of}
 use Rattle.vl_script_model.specs.Runs.{script_of, outside}
 use Rattle.vl_script_model.specs.Steps.{kept}
 use Rattle.vl_script_model.specs.Stored.{IsStopped, IsStored}

@@ -1,6 +1,6 @@
 use Rattle.std.proofs.Common.{◌≡◌, ◌+◌, ℕ, List, length, Some}
 use Rattle.vl_script_model.specs.Reading.{HasRead, streams}
-use Rattle.vl_replay.specs.Replaying.{TakesLines, StandsFor, disk_of}
+use Rattle.vl_replay.specs.Served.{TakesLines, StandsFor, disk_of}
 use Rattle.vl_script_model.specs.Runs.{script_of, outside}
 use Rattle.vl_script_model.specs.Sequential.{State}
 use Rattle.vl_script_model.specs.Steps.{kept}

@@ -11,7 +11,7 @@ use Rattle.vl_script_model.specs.laws.Laws.{keeps_up_at_first}
 use Rattle.vl_engine.specs.Opening.{IsFault}
 use Rattle.vl_engine_laws.specs.Found.{IsDurable}
 use Rattle.vl_script_model.specs.Reading.{streams}
-use Rattle.vl_replay.specs.Replaying.{disk_of}
+use Rattle.vl_replay.specs.Served.{disk_of}
 use Rattle.vl_script_model.specs.Runs.{script_of, outside}
 use Rattle.vl_script_model.specs.Sequential.{State}
 use Rattle.vl_script_model.specs.Start.{EndsAtTables, FailsAtTables}

@@ -2,7 +2,7 @@ use Rattle.std.proofs.Common.{◌≡◌, ◌≢◌, ◌≤◌, arith, true, fals
 use Rattle.vl_mem.specs.contracts.steady_writer.SteadyWriterWriter.TheImpl as writing
 use Rattle.vl_mem.specs.contracts.stopping_disk.StoppingDiskWatched.TheImpl as memory
 use Rattle.vl_script_model.specs.Failing.{Beside, ByReader, ByWriter, ReaderFailed, beside}
-use Rattle.vl_replay.specs.Replaying.{StandsFor, disk_of}
+use Rattle.vl_replay.specs.Served.{StandsFor, disk_of}
 use Rattle.vl_script_model.specs.Runs.{outside}
 use Rattle.vl_script_model.specs.Trial.{begun}
 use Rattle.vl_script_model.specs.Trying.{all_told, trial_of}

@@ -1,5 +1,5 @@
 -- Behind a line the replayer stands for the state that the line leaves.
-use Rattle.vl_replay.proofs.Names.Returning.{stands_after}
+use Rattle.vl_replay_laws.specs.laws.Names.Returning.{stands_after}
 use Rattle.vl_replay.proofs.replayer.Replayer.line.Goals as goal
 
 pub returns-in-Ok-clause-after : goal.returns-in-Ok-clause-after

@@ -1,6 +1,6 @@
 use Rattle.std.proofs.Common.{◌≡◌, ap, sym, subst, ◌∙◌, refl, arith}
 use Rattle.vl_engine_model.specs.declared.layout.Layout.{Layout}
-use Rattle.vl_replay.proofs.Merges.Waiting.{none_merges}
+use Rattle.vl_replay_laws.specs.laws.Merges.Waiting.{none_merges}
 use Rattle.vl_engine_laws.specs.Found.{IsDurable}
 use Rattle.vl_recover.specs.laws.opening.OneFinding.{opened_not}
 use Rattle.vl_script_model.specs.Sequential.{history_of}

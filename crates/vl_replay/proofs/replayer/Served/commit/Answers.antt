@@ -9,18 +9,18 @@ use Rattle.vl_engine_model.specs.Store.Lines.{Unknown}
 use Rattle.vl_engine_model.specs.Store.Things.{Thing, only, thing_of}
 use Rattle.vl_model.specs.declared.counter.Counter.TheVariants as counters
 use Rattle.vl_script_model.specs.Sequential.{history_of}
-use Rattle.vl_replay.proofs.Names.CommitMaking.{conflict_makes, decided_so, exhausted_makes, full_makes, never_halted}
-use Rattle.vl_replay.proofs.Names.CommitMaking.{failed_so, handed_so, nothing_makes, number_makes, outcome_done, outcome_fail}
+use Rattle.vl_replay_laws.specs.laws.Names.CommitMaking.{conflict_makes, decided_so, exhausted_makes, full_makes, never_halted}
+use Rattle.vl_replay_laws.specs.laws.Names.CommitMaking.{failed_so, handed_so, nothing_makes, number_makes, outcome_done, outcome_fail}
 use Rattle.vl_script_model.specs.declared.fails.Halt.TheVariants as halts
 use Rattle.vl_script.specs.declared.answer.Answer.TheVariants as answers
-use Rattle.vl_replay.proofs.Disk.Carried.{quiet_carries}
-use Rattle.vl_replay.proofs.Disk.Committed.{answered_carries, carries_short, exhausted_carries, failed_carries}
-use Rattle.vl_replay.proofs.Disk.Committed.{full_carries, halted_carries, only_keeps, short_carries}
-use Rattle.vl_replay.proofs.Names.Making.{its, itself, nothing_there}
-use Rattle.vl_replay.proofs.Names.Serving.{Serves, decides_all, represents}
-use Rattle.vl_replay.proofs.Names.Returning.{read_only_returns, returns_so, taken_as, taken_out, unknown_returns}
+use Rattle.vl_replay_laws.specs.laws.Disk.Carried.{quiet_carries}
+use Rattle.vl_replay_laws.specs.laws.Disk.Committed.{answered_carries, carries_short, exhausted_carries, failed_carries}
+use Rattle.vl_replay_laws.specs.laws.Disk.Committed.{full_carries, halted_carries, only_keeps, short_carries}
+use Rattle.vl_replay_laws.specs.laws.Names.Making.{its, itself, nothing_there}
+use Rattle.vl_replay_laws.specs.laws.Names.Serving.{Serves, decides_all, represents}
+use Rattle.vl_replay_laws.specs.laws.Names.Returning.{read_only_returns, returns_so, taken_as, taken_out, unknown_returns}
 use Rattle.vl_space.specs.Removing.{Removes}
-use Rattle.vl_replay.proofs.Lines.Ruled.{committed_layout}
+use Rattle.vl_replay_laws.specs.laws.Lines.Ruled.{committed_layout}
 use Rattle.vl_replay.proofs.replayer.Served.commit.Goals as goal
 
 pub returns-in-None-clause-makes : goal.returns-in-None-clause-makes

@@ -3,15 +3,15 @@ use Rattle.std.proofs.Common.{ap, refl, subst, sym}
 use Rattle.std.specs.Prelude.{Option}
 use Rattle.vl_engine_model.specs.Store.Dispatch.{drop_by}
 use Rattle.vl_script_model.specs.Sequential.{history_of}
-use Rattle.vl_replay.proofs.Names.BeginMaking.{bare_of, transaction_ends, unnamed_makes, view_ends}
-use Rattle.vl_replay.proofs.Names.Returning.{taken_as, taken_out}
-use Rattle.vl_replay.proofs.Names.Serving.{represents}
+use Rattle.vl_replay_laws.specs.laws.Names.BeginMaking.{bare_of, transaction_ends, unnamed_makes, view_ends}
+use Rattle.vl_replay_laws.specs.laws.Names.Returning.{taken_as, taken_out}
+use Rattle.vl_replay_laws.specs.laws.Names.Serving.{represents}
 use Rattle.vl_space.specs.Removing.{Removes}
 use Rattle.vl_engine_model.specs.Ruling.{ended}
 use Rattle.vl_engine_model.specs.Rulings.Commit.{Transaction as ATxn}
 use Rattle.vl_engine_model.specs.Store.Things.{Thing, thing_of}
-use Rattle.vl_replay.proofs.Names.Making.{its, itself}
-use Rattle.vl_replay.specs.Standing.{open_in}
+use Rattle.vl_replay_laws.specs.laws.Names.Making.{its, itself}
+use Rattle.vl_replay_laws.specs.Standing.{open_in}
 use Rattle.vl_replay.proofs.replayer.Served.end.Goals as goal
 
 pub returns-in-None-clause-makes : goal.returns-in-None-clause-makes

@@ -8,18 +8,18 @@ use Rattle.vl_engine_model.specs.Ruling.{Ruling, StepAnswer}
 use Rattle.vl_engine_model.specs.Rulings.Flush.{flush_ruling}
 use Rattle.vl_engine_model.specs.Store.Dispatch.{step_by, step_told}
 use Rattle.vl_script_model.specs.Halts.{HaltsByRead}
-use Rattle.vl_replay.specs.Replaying.{MakesStep}
+use Rattle.vl_replay_laws.specs.Replaying.{MakesStep}
 use Rattle.vl_script_model.specs.Sequential.{files_behind, history_of}
 use Rattle.vl_script_model.specs.declared.fails.Halt.{Halt}
 use Rattle.vl_script_model.specs.laws.Laws.{state_after-sound}
 use Rattle.vl_script.specs.declared.answer.Answer.{Answer}
 use Rattle.vl_script.specs.declared.line.Line.TheVariants as lines
-use Rattle.vl_replay.proofs.Disk.Stepped.{failed_at, halted_at, flush_made, flush_named, step_carries}
-use Rattle.vl_replay.proofs.Names.Serving.{decides_all, represents}
-use Rattle.vl_replay.proofs.Names.StepMaking.{flush_leaves, may_go, step_cause, step_makes, step_sound}
+use Rattle.vl_replay_laws.specs.laws.Disk.Stepped.{failed_at, halted_at, flush_made, flush_named, step_carries}
+use Rattle.vl_replay_laws.specs.laws.Names.Serving.{decides_all, represents}
+use Rattle.vl_replay_laws.specs.laws.Names.StepMaking.{flush_leaves, may_go, step_cause, step_makes, step_sound}
 use Rattle.vl_engine_laws.specs.laws.FlushRulings.{flush_made as flush_ruled, flush_made_so, flush_waits}
 use Rattle.vl_script_model.specs.laws.Torn.{flush_torn}
-use Rattle.vl_replay.proofs.Passes.Stepping.{step_leaves}
+use Rattle.vl_replay_laws.specs.laws.Passes.Stepping.{step_leaves}
 use Rattle.vl_space.specs.Removing.{Removes}
 use Rattle.vl_replay.proofs.replayer.Served.flush.Goals as goal
 

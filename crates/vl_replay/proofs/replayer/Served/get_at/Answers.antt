@@ -3,12 +3,12 @@ use Rattle.std.proofs.Common.{◌∙◌, ℕ, List, refl, ap, sym, arith}
 use Rattle.vl_engine_model.specs.Store.Reading.{get_at_by}
 use Rattle.vl_engine_model.specs.Store.Things.{thing_of}
 use Rattle.vl_script_model.specs.Sequential.{history_of}
-use Rattle.vl_replay.specs.declared.replayer.open.Thing.TheVariants.{Transaction, View}
-use Rattle.vl_replay.proofs.Names.Lookups.{place_there, without_open}
-use Rattle.vl_replay.proofs.Names.Making.{its, itself}
-use Rattle.vl_replay.proofs.Names.Placing.{free_returns, in_place, out_of_place}
-use Rattle.vl_replay.proofs.Names.PastMaking.{past_counted, past_not_by_disk, past_sound, past_undamaged, txn_past_makes, view_past_makes}
-use Rattle.vl_replay.proofs.Names.Untabled.{reads_none}
+use Rattle.vl_replay_laws.specs.declared.open.Thing.TheVariants.{Transaction, View}
+use Rattle.vl_replay_laws.specs.laws.Names.Lookups.{place_there, without_open}
+use Rattle.vl_replay_laws.specs.laws.Names.Making.{its, itself}
+use Rattle.vl_replay_laws.specs.laws.Names.Placing.{free_returns, in_place, out_of_place}
+use Rattle.vl_replay_laws.specs.laws.Names.PastMaking.{past_counted, past_not_by_disk, past_sound, past_undamaged, txn_past_makes, view_past_makes}
+use Rattle.vl_replay_laws.specs.laws.Names.Untabled.{reads_none}
 use Rattle.vl_replay.proofs.replayer.Served.get_at.Goals as goal
 
 pub returns-in_default-clause-makes : goal.returns-in_default-clause-makes

@@ -7,16 +7,16 @@ use Rattle.vl_engine_model.specs.Ruling.{Ruling}
 use Rattle.vl_engine_model.specs.Rulings.Keep.{KeepAnswer, keep_ruling}
 use Rattle.vl_engine_model.specs.Store.Dispatch.{keep_by}
 use Rattle.vl_script_model.specs.Halts.{HaltsByRead}
-use Rattle.vl_replay.specs.Replaying.{MakesStep}
+use Rattle.vl_replay_laws.specs.Replaying.{MakesStep}
 use Rattle.vl_script_model.specs.Sequential.{history_of}
 use Rattle.vl_script_model.specs.declared.fails.Halt.{Halt}
 use Rattle.vl_script_model.specs.laws.Laws.{state_after-sound}
 use Rattle.vl_script.specs.declared.answer.Answer.{Answer}
 use Rattle.vl_script.specs.declared.line.Line.TheVariants as lines
-use Rattle.vl_replay.proofs.Disk.KeptSteps.{keep_carries, keep_halted_at, keep_made, keep_named, unkept_at}
+use Rattle.vl_replay_laws.specs.laws.Disk.KeptSteps.{keep_carries, keep_halted_at, keep_made, keep_named, unkept_at}
 use Rattle.vl_script_model.specs.laws.Torn.{keep_torn}
-use Rattle.vl_replay.proofs.Names.KeepMaking.{keep_cause, keep_keeps, keep_leaves, keep_makes, keep_sound}
-use Rattle.vl_replay.proofs.Names.Serving.{decides_all, represents}
+use Rattle.vl_replay_laws.specs.laws.Names.KeepMaking.{keep_cause, keep_keeps, keep_leaves, keep_makes, keep_sound}
+use Rattle.vl_replay_laws.specs.laws.Names.Serving.{decides_all, represents}
 use Rattle.vl_space.specs.Removing.{Removes}
 use Rattle.vl_replay.proofs.replayer.Served.keep.Goals as goal
 

@@ -3,13 +3,13 @@ use Rattle.std.proofs.Common.{◌∙◌, ℕ, List, refl, ap, sym, arith}
 use Rattle.vl_engine_model.specs.Store.Reading.{get_by}
 use Rattle.vl_engine_model.specs.Store.Things.{thing_of}
 use Rattle.vl_script_model.specs.Sequential.{history_of}
-use Rattle.vl_replay.specs.Standing.{tell_of, told_value}
-use Rattle.vl_replay.specs.declared.replayer.open.Thing.TheVariants.{Transaction, View}
-use Rattle.vl_replay.proofs.Names.Lookups.{place_there, without_open}
-use Rattle.vl_replay.proofs.Names.Making.{its, itself}
-use Rattle.vl_replay.proofs.Names.Placing.{free_returns, in_place, out_of_place}
-use Rattle.vl_replay.proofs.Names.ReadMaking.{call_counted, call_sound, call_undamaged, txn_read_makes, view_read_makes}
-use Rattle.vl_replay.proofs.Names.Untabled.{reads_none}
+use Rattle.vl_replay_laws.specs.Standing.{tell_of, told_value}
+use Rattle.vl_replay_laws.specs.declared.open.Thing.TheVariants.{Transaction, View}
+use Rattle.vl_replay_laws.specs.laws.Names.Lookups.{place_there, without_open}
+use Rattle.vl_replay_laws.specs.laws.Names.Making.{its, itself}
+use Rattle.vl_replay_laws.specs.laws.Names.Placing.{free_returns, in_place, out_of_place}
+use Rattle.vl_replay_laws.specs.laws.Names.ReadMaking.{call_counted, call_sound, call_undamaged, txn_read_makes, view_read_makes}
+use Rattle.vl_replay_laws.specs.laws.Names.Untabled.{reads_none}
 use Rattle.vl_replay.proofs.replayer.Served.read.Goals as goal
 
 pub returns-in_default-clause-makes : goal.returns-in_default-clause-makes

@@ -8,18 +8,18 @@ use Rattle.vl_engine_model.specs.Ruling.{Ruling, StepAnswer}
 use Rattle.vl_engine_model.specs.Rulings.Rotate.{rotate_ruling}
 use Rattle.vl_engine_model.specs.Store.Dispatch.{step_by, step_told}
 use Rattle.vl_script_model.specs.Halts.{HaltsByRead}
-use Rattle.vl_replay.specs.Replaying.{MakesStep}
+use Rattle.vl_replay_laws.specs.Replaying.{MakesStep}
 use Rattle.vl_script_model.specs.Sequential.{files_behind, history_of}
 use Rattle.vl_script_model.specs.declared.fails.Halt.{Halt}
 use Rattle.vl_script_model.specs.laws.Laws.{state_after-sound}
 use Rattle.vl_script.specs.declared.answer.Answer.{Answer}
 use Rattle.vl_script.specs.declared.line.Line.TheVariants as lines
-use Rattle.vl_replay.proofs.Disk.Stepped.{failed_at, halted_at, rotate_made, rotate_named, step_carries}
-use Rattle.vl_replay.proofs.Names.Serving.{decides_all, represents}
-use Rattle.vl_replay.proofs.Names.StepMaking.{rotate_leaves, step_cause, step_makes, step_sound}
+use Rattle.vl_replay_laws.specs.laws.Disk.Stepped.{failed_at, halted_at, rotate_made, rotate_named, step_carries}
+use Rattle.vl_replay_laws.specs.laws.Names.Serving.{decides_all, represents}
+use Rattle.vl_replay_laws.specs.laws.Names.StepMaking.{rotate_leaves, step_cause, step_makes, step_sound}
 use Rattle.vl_engine_laws.specs.laws.RotateRulings.{made_ruled, rotate_made as rotate_ruled}
 use Rattle.vl_script_model.specs.laws.Torn.{rotate_torn}
-use Rattle.vl_replay.proofs.Passes.Stepping.{step_leaves}
+use Rattle.vl_replay_laws.specs.laws.Passes.Stepping.{step_leaves}
 use Rattle.vl_space.specs.Removing.{Removes}
 use Rattle.vl_replay.proofs.replayer.Served.rotate.Goals as goal
 

@@ -8,17 +8,17 @@ use Rattle.vl_space.specs.Sweeping.{sweep_outcome}
 use Rattle.vl_engine_model.specs.Rulings.Sweep.{sweep_ruling}
 use Rattle.vl_engine_model.specs.Store.Dispatch.{sweep_by}
 use Rattle.vl_script_model.specs.Halts.{HaltsByRead}
-use Rattle.vl_replay.specs.Replaying.{MakesStep}
+use Rattle.vl_replay_laws.specs.Replaying.{MakesStep}
 use Rattle.vl_script_model.specs.Sequential.{history_of}
 use Rattle.vl_script_model.specs.declared.fails.Halt.{Halt}
 use Rattle.vl_script_model.specs.laws.Laws.{state_after-sound}
 use Rattle.vl_script.specs.declared.answer.Answer.{Answer}
 use Rattle.vl_script.specs.declared.line.Line.TheVariants as lines
 use Rattle.vl_space.specs.Removing.{Removes}
-use Rattle.vl_replay.proofs.Disk.Swept.{sweep_carries, sweep_named}
-use Rattle.vl_replay.proofs.Names.Serving.{decides_all, represents}
-use Rattle.vl_replay.proofs.Names.SweepMaking.{sweep_cause, sweep_leaves, sweep_makes, sweep_sound, sweep_sweeps}
-use Rattle.vl_replay.proofs.Passes.Moving.{decides_weaker}
+use Rattle.vl_replay_laws.specs.laws.Disk.Swept.{sweep_carries, sweep_named}
+use Rattle.vl_replay_laws.specs.laws.Names.Serving.{decides_all, represents}
+use Rattle.vl_replay_laws.specs.laws.Names.SweepMaking.{sweep_cause, sweep_leaves, sweep_makes, sweep_sound, sweep_sweeps}
+use Rattle.vl_replay_laws.specs.laws.Passes.Moving.{decides_weaker}
 use Rattle.vl_replay.proofs.replayer.Served.sweep.Goals as goal
 
 pub returns-clause-makes : goal.returns-clause-makes

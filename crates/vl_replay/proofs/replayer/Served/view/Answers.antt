@@ -5,15 +5,15 @@ use Rattle.vl_engine_laws.specs.laws.VersionLaws.{laid_in_memory}
 use Rattle.vl_engine_model.specs.Store.Reading.{a_view, begin_as}
 use Rattle.vl_engine_model.specs.Store.Things.{thing_of}
 use Rattle.vl_script_model.specs.Sequential.{history_of}
-use Rattle.vl_replay.specs.Standing.{open_in}
+use Rattle.vl_replay_laws.specs.Standing.{open_in}
 use Rattle.vl_script_model.specs.laws.Laws.{state_after-sound}
-use Rattle.vl_replay.proofs.Names.BeginMaking.{too_many_makes, view_makes, unread_of}
-use Rattle.vl_replay.proofs.Names.Returning.{returns_so}
-use Rattle.vl_replay.proofs.Names.Serving.{decides_all, represents}
+use Rattle.vl_replay_laws.specs.laws.Names.BeginMaking.{too_many_makes, view_makes, unread_of}
+use Rattle.vl_replay_laws.specs.laws.Names.Returning.{returns_so}
+use Rattle.vl_replay_laws.specs.laws.Names.Serving.{decides_all, represents}
 use Rattle.vl_space.specs.Removing.{Removes}
 use Rattle.vl_engine_model.specs.declared.layout.Layout.{Layout}
 use Rattle.vl_engine_model.specs.Rulings.Begin.{TooMany}
-use Rattle.vl_replay.proofs.Lines.Ruled.{begun_layout}
+use Rattle.vl_replay_laws.specs.laws.Lines.Ruled.{begun_layout}
 use Rattle.vl_replay.proofs.replayer.Served.view.Goals as goal
 use Rattle.vl_script.specs.declared.answer.Answer.TheVariants as answers
 use Rattle.vl_script.specs.declared.line.Line.TheVariants as lines

@@ -3,11 +3,11 @@ use Rattle.std.proofs.Common.{◌∙◌, refl, sym, arith}
 use Rattle.std.specs.Prelude.{Ok}
 use Rattle.vl_engine_model.specs.Store.Reading.{write_by}
 use Rattle.vl_engine_model.specs.Store.Things.{thing_of}
-use Rattle.vl_replay.specs.Standing.{change_of}
-use Rattle.vl_replay.specs.declared.replayer.open.Thing.TheVariants.{Transaction}
-use Rattle.vl_replay.proofs.Names.Lookups.{place_there, without_open}
-use Rattle.vl_replay.proofs.Names.Making.{read_only_makes, write_makes}
-use Rattle.vl_replay.proofs.Names.Placing.{free_returns, in_place, out_of_place, still_in_place}
+use Rattle.vl_replay_laws.specs.Standing.{change_of}
+use Rattle.vl_replay_laws.specs.declared.open.Thing.TheVariants.{Transaction}
+use Rattle.vl_replay_laws.specs.laws.Names.Lookups.{place_there, without_open}
+use Rattle.vl_replay_laws.specs.laws.Names.Making.{read_only_makes, write_makes}
+use Rattle.vl_replay_laws.specs.laws.Names.Placing.{free_returns, in_place, out_of_place, still_in_place}
 use Rattle.vl_script.specs.declared.answer.Answer.TheVariants as answers
 use Rattle.vl_replay.proofs.replayer.Served.write.Goals as goal
 

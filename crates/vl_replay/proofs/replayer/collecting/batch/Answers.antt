@@ -5,14 +5,14 @@ use Rattle.vl_engine_model.specs.Store.Dispatch.{batch_by}
 use Rattle.vl_engine_model.specs.Store.Lines as store_lines
 use Rattle.vl_engine_model.specs.Store.Things.{thing_of}
 use Rattle.vl_script_model.specs.Halts.{HaltsByDamage}
-use Rattle.vl_replay.specs.Passing.{Passes}
+use Rattle.vl_replay_laws.specs.Passing.{Passes}
 use Rattle.vl_script_model.specs.declared.fails.Halt.{Halt}
 use Rattle.vl_script.specs.declared.answer.Answer.{Answer}
 use Rattle.vl_script.specs.declared.answer.Answer.TheVariants as answers
-use Rattle.vl_replay.proofs.Names.BeginMaking.{none_or_some}
-use Rattle.vl_replay.proofs.Names.Making.{only_makes}
-use Rattle.vl_replay.proofs.Passes.Batching.{batch_makes, batch_unknown, none_named, other_named, own_name, passes_then, there_is}
-use Rattle.vl_replay.proofs.Passes.Undamaged.{undamaged}
+use Rattle.vl_replay_laws.specs.laws.Names.BeginMaking.{none_or_some}
+use Rattle.vl_replay_laws.specs.laws.Names.Making.{only_makes}
+use Rattle.vl_replay_laws.specs.laws.Passes.Batching.{batch_makes, batch_unknown, none_named, other_named, own_name, passes_then, there_is}
+use Rattle.vl_replay_laws.specs.laws.Passes.Undamaged.{undamaged}
 use Rattle.vl_replay.proofs.replayer.collecting.batch.Goals as goal
 
 pub returns-in_default-clause-makes : goal.returns-in_default-clause-makes

@@ -8,15 +8,15 @@ use Rattle.vl_engine_model.specs.Rulings.EndPass.{without_pass}
 use Rattle.vl_engine_model.specs.Store.Dispatch.{drop_by}
 use Rattle.vl_engine_model.specs.Store.Things.{APass, Thing, thing_of}
 use Rattle.vl_script_model.specs.Durable.{CarriesOut}
-use Rattle.vl_replay.specs.Passing.{PassesIn}
-use Rattle.vl_replay.specs.Replaying.{MakesStep, state_by}
+use Rattle.vl_replay_laws.specs.Passing.{PassesIn}
+use Rattle.vl_replay_laws.specs.Replaying.{MakesStep, state_by}
 use Rattle.vl_script_model.specs.Sequential.{history_of}
 use Rattle.vl_script_model.specs.Stored.{IsStopped, IsStored}
 use Rattle.vl_script.specs.declared.answer.Answer.TheVariants as answers
 use Rattle.vl_replay.proofs.Merges.Handing.{can_still}
-use Rattle.vl_replay.proofs.Names.Serving.{represents}
-use Rattle.vl_replay.proofs.Passes.Ending.{drop_passes, end_carries, end_makes, end_merges, end_passes, took_no_pass, took_pass}
-use Rattle.vl_replay.proofs.Passes.Used.{going_as, other_named}
+use Rattle.vl_replay_laws.specs.laws.Names.Serving.{represents}
+use Rattle.vl_replay_laws.specs.laws.Passes.Ending.{drop_passes, end_carries, end_makes, end_merges, end_passes, took_no_pass, took_pass}
+use Rattle.vl_replay_laws.specs.laws.Passes.Used.{going_as, other_named}
 use Rattle.vl_space.specs.Removing.{Removes}
 use Rattle.vl_replay.proofs.replayer.collecting.end.Goals as goal
 

@@ -14,19 +14,19 @@ use Rattle.vl_engine_model.specs.Store.Dispatch.{move_by}
 use Rattle.vl_engine_model.specs.Store.Lines as store_lines
 use Rattle.vl_engine_model.specs.Shown.{IsThere}
 use Rattle.vl_engine_model.specs.Store.Things.{APass, Step, thing_in, thing_of}
-use Rattle.vl_replay.specs.Passing.{Passes}
-use Rattle.vl_replay.specs.Replaying.{MakesStep}
+use Rattle.vl_replay_laws.specs.Passing.{Passes}
+use Rattle.vl_replay_laws.specs.Replaying.{MakesStep}
 use Rattle.vl_script_model.specs.Sequential.{history_of}
 use Rattle.vl_script.specs.declared.answer.Answer.TheVariants as answers
-use Rattle.vl_replay.proofs.Disk.Carried.{quiet_carries}
-use Rattle.vl_replay.proofs.Disk.Committed.{carries_short, only_keeps}
-use Rattle.vl_replay.proofs.Disk.Moved.{answered_moves, failed_moves, leaves, short_moves, unread_moves}
-use Rattle.vl_replay.proofs.Names.Making.{only_makes}
-use Rattle.vl_replay.proofs.Names.Serving.{decides_all, represents}
-use Rattle.vl_replay.proofs.Passes.Batching.{move_unknown, none_named, other_named, own_name}
-use Rattle.vl_replay.proofs.Passes.Moving.{decides_weaker, moved_makes, moved_opens, moved_passes, refused_makes, refused_opens}
-use Rattle.vl_replay.proofs.Passes.Moving.{refused_passes, waits_there}
-use Rattle.vl_replay.proofs.Passes.Standing.{out_carries}
+use Rattle.vl_replay_laws.specs.laws.Disk.Carried.{quiet_carries}
+use Rattle.vl_replay_laws.specs.laws.Disk.Committed.{carries_short, only_keeps}
+use Rattle.vl_replay_laws.specs.laws.Disk.Moved.{answered_moves, failed_moves, leaves, short_moves, unread_moves}
+use Rattle.vl_replay_laws.specs.laws.Names.Making.{only_makes}
+use Rattle.vl_replay_laws.specs.laws.Names.Serving.{decides_all, represents}
+use Rattle.vl_replay_laws.specs.laws.Passes.Batching.{move_unknown, none_named, other_named, own_name}
+use Rattle.vl_replay_laws.specs.laws.Passes.Moving.{decides_weaker, moved_makes, moved_opens, moved_passes, refused_makes, refused_opens}
+use Rattle.vl_replay_laws.specs.laws.Passes.Moving.{refused_passes, waits_there}
+use Rattle.vl_replay_laws.specs.laws.Passes.Standing.{out_carries}
 use Rattle.vl_space.specs.Removing.{Removes}
 use Rattle.vl_engine_model.specs.declared.layout.Layout.{Layout}
 use Rattle.vl_replay.proofs.replayer.collecting.move_batch.Goals as goal

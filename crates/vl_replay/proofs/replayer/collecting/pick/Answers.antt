@@ -12,23 +12,23 @@ use Rattle.vl_engine_model.specs.Store.Dispatch.{pick_as}
 use Rattle.vl_engine_model.specs.Store.Lines as store_lines
 use Rattle.vl_engine_model.specs.Store.Things.{thing_of}
 use Rattle.vl_script_model.specs.Durable.{CarriesOut}
-use Rattle.vl_replay.specs.Replaying.{MakesStep, StandsIn, state_by}
+use Rattle.vl_replay_laws.specs.Replaying.{MakesStep, StandsIn, state_by}
 use Rattle.vl_script_model.specs.Sequential.{history_of}
 use Rattle.vl_script_model.specs.Stored.{IsStopped, IsStored}
 use Rattle.vl_script_model.specs.laws.Growing.{pick_commits}
 use Rattle.vl_script.specs.declared.answer.Answer.{Answer}
 use Rattle.vl_script.specs.declared.answer.Answer.TheVariants as answers
-use Rattle.vl_replay.proofs.Disk.Carried.{quiet_carries}
-use Rattle.vl_replay.proofs.Names.Serving.{Serves, represents}
+use Rattle.vl_replay_laws.specs.laws.Disk.Carried.{quiet_carries}
+use Rattle.vl_replay_laws.specs.laws.Names.Serving.{Serves, represents}
 use Rattle.vl_engine_laws.specs.MayStep.{Fits}
 use Rattle.vl_engine_laws.specs.Represents.{IsHeld, StandsFor}
 use Rattle.vl_script_model.specs.declared.fails.Halt.TheVariants as why
-use Rattle.vl_replay.proofs.Passes.Picking.{answers_ruling, picked_calls, picked_makes, picked_next_log, picked_next_table, picked_passes}
-use Rattle.vl_replay.proofs.Passes.Picking.{picked_represents, picked_running, refused_keeps, refused_makes, refused_passes}
-use Rattle.vl_replay.proofs.Passes.Standing.{out_carries, still_carries}
+use Rattle.vl_replay_laws.specs.laws.Passes.Picking.{answers_ruling, picked_calls, picked_makes, picked_next_log, picked_next_table, picked_passes}
+use Rattle.vl_replay_laws.specs.laws.Passes.Picking.{picked_represents, picked_running, refused_keeps, refused_makes, refused_passes}
+use Rattle.vl_replay_laws.specs.laws.Passes.Standing.{out_carries, still_carries}
 use Rattle.vl_space.specs.Removing.{Removes}
 use Rattle.vl_engine_model.specs.declared.layout.Layout.{Layout}
-use Rattle.vl_replay.proofs.Passes.Picking.{picked_layout}
+use Rattle.vl_replay_laws.specs.laws.Passes.Picking.{picked_layout}
 use Rattle.vl_replay.proofs.replayer.collecting.pick.Goals as goal
 
 pub returns-in-Ok-clause-makes : goal.returns-in-Ok-clause-makes

@@ -7,8 +7,8 @@ use Rattle.vl_engine_model.specs.Store.Lines as store_lines
 use Rattle.vl_script_model.specs.Sequential.{history_of, stat_told}
 use Rattle.vl_script.specs.declared.answer.Answer.TheVariants as answers
 use Rattle.vl_script.specs.declared.answer.SegmentLine.{SegmentLine}
-use Rattle.vl_replay.proofs.Names.Making.{only_makes}
-use Rattle.vl_replay.proofs.Passes.Telling.{told_back}
+use Rattle.vl_replay_laws.specs.laws.Names.Making.{only_makes}
+use Rattle.vl_replay_laws.specs.laws.Passes.Telling.{told_back}
 use Rattle.vl_replay.proofs.replayer.collecting.stats.Goals as goal
 
 pub returns-clause-makes : goal.returns-clause-makes

@@ -8,35 +8,36 @@ use Rattle.vl_model.specs.Keys.{tagged, untagged}
 use Rattle.vl_model.specs.declared.change.Change.TheVariants as changes
 use Rattle.vl_script_model.specs.Durable.{CarriesOut}
 use Rattle.vl_script_model.specs.Failing.{FailsAt, ReadsTables}
-use Rattle.vl_replay.specs.Replaying.{MakesStep, MergesIn, RemovesIn}
+use Rattle.vl_replay_laws.specs.Replaying.{MakesStep, MergesIn}
+use Rattle.vl_replay.specs.Served.{RemovesIn}
 use Rattle.vl_script_model.specs.Sequential.{answer_to, history_of, state_after, step_to}
 use Rattle.vl_script_model.specs.Stored.{IsStopped, IsStored}
 use Rattle.vl_script_model.specs.laws.Growing.{batch_keeps, begin_keeps, get_at_keeps, get_keeps, scan_keeps, stats_keeps, write_keeps}
 use Rattle.vl_script.specs.declared.line.Line.{Line}
 use Rattle.vl_script.specs.declared.line.Line.TheVariants as lines
-use Rattle.vl_replay.proofs.Disk.Carried.{quiet_carries}
-use Rattle.vl_replay.proofs.Merges.Keeping.{commit_keeps_work, flush_keeps_merges, flush_keeps_passes, get_at_keeps_work}
-use Rattle.vl_replay.proofs.Merges.Keeping.{get_keeps_work, keep_keeps_work, merges_kept, rotate_keeps_merges, rotate_keeps_passes}
-use Rattle.vl_replay.proofs.Merges.Keeping.{scan_keeps_work, transaction_keeps_work, view_keeps_work, write_keeps_work}
+use Rattle.vl_replay_laws.specs.laws.Disk.Carried.{quiet_carries}
+use Rattle.vl_replay_laws.specs.laws.Merges.Keeping.{commit_keeps_work, flush_keeps_merges, flush_keeps_passes, get_at_keeps_work}
+use Rattle.vl_replay_laws.specs.laws.Merges.Keeping.{get_keeps_work, keep_keeps_work, merges_kept, rotate_keeps_merges, rotate_keeps_passes}
+use Rattle.vl_replay_laws.specs.laws.Merges.Keeping.{scan_keeps_work, transaction_keeps_work, view_keeps_work, write_keeps_work}
 use Rattle.vl_replay.proofs.Lines.Moves.{can_moved, merges_answered, move_tells}
 use Rattle.vl_replay.proofs.Lines.Parts.{merging_of, passing_of, removing_of}
-use Rattle.vl_replay.proofs.Lines.Passed.{bare_no_pass, batch_keeps_merges, install_passes, plan_passes}
-use Rattle.vl_replay.proofs.Lines.Unmoved.{free_name, leaves_carries, taken_leaves, taken_makes, taken_step}
-use Rattle.vl_replay.proofs.Lines.Unmoved.{unanswered_carries, used_line}
+use Rattle.vl_replay_laws.specs.laws.Lines.Passed.{bare_no_pass, batch_keeps_merges, install_passes, plan_passes}
+use Rattle.vl_replay_laws.specs.laws.Lines.Unmoved.{free_name, leaves_carries, taken_leaves, taken_makes, taken_step}
+use Rattle.vl_replay_laws.specs.laws.Lines.Unmoved.{unanswered_carries, used_line}
 use Rattle.vl_replay.proofs.Merges.Handing.{can_answered, can_same}
-use Rattle.vl_replay.proofs.Merges.Waiting.{merges_behind, on_ok_of}
+use Rattle.vl_replay_laws.specs.laws.Merges.Waiting.{merges_behind, on_ok_of}
 use Rattle.vl_script_model.specs.laws.Halting.{not_by_disk, out_not_by_disk}
-use Rattle.vl_replay.proofs.Names.Halts.{by_the_reader, damage_is_read, no_cause, not_at, not_by_damage, not_by_read}
-use Rattle.vl_replay.proofs.Names.Halts.{not_by_reader, reader_is_read}
-use Rattle.vl_replay.proofs.Passes.Picking.{pick_keeps_merges}
-use Rattle.vl_replay.proofs.Passes.Standing.{passes_behind}
-use Rattle.vl_replay.proofs.Passes.Stepping.{passes_stepped}
+use Rattle.vl_replay_laws.specs.laws.Names.Halts.{by_the_reader, damage_is_read, no_cause, not_at, not_by_damage, not_by_read}
+use Rattle.vl_replay_laws.specs.laws.Names.Halts.{not_by_reader, reader_is_read}
+use Rattle.vl_replay_laws.specs.laws.Passes.Picking.{pick_keeps_merges}
+use Rattle.vl_replay_laws.specs.laws.Passes.Standing.{passes_behind}
+use Rattle.vl_replay_laws.specs.laws.Passes.Stepping.{passes_stepped}
 use Rattle.vl_engine_laws.specs.laws.Lasting.{flush_lasts, rotate_lasts}
-use Rattle.vl_replay.specs.declared.replayer.choice.Choice.TheVariants.{Due, LeadsInto}
-use Rattle.vl_replay.specs.Passing.{PassesIn, name_made}
+use Rattle.vl_replay_laws.specs.declared.choice.Choice.TheVariants.{Due, LeadsInto}
+use Rattle.vl_replay_laws.specs.Passing.{PassesIn, name_made}
 use Rattle.vl_space.specs.Removing.{Removes}
-use Rattle.vl_replay.proofs.Lines.Sweeps.{batch_layout, sweep_keeps_merges, sweep_keeps_passes, sweep_lasts}
-use Rattle.vl_replay.proofs.Names.Quiet.{get_at_quiet, get_quiet, scan_quiet, write_quiet}
+use Rattle.vl_replay_laws.specs.laws.Lines.Sweeps.{batch_layout, sweep_keeps_merges, sweep_keeps_passes, sweep_lasts}
+use Rattle.vl_replay_laws.specs.laws.Names.Quiet.{get_at_quiet, get_quiet, scan_quiet, write_quiet}
 use Rattle.vl_replay.proofs.replayer.lines.carry_out.Goals as goal
 
 -- ---- a name in use

@@ -4,8 +4,8 @@ use Rattle.std.specs.Prelude.{Some}
 use Rattle.vl_engine_model.specs.Store.Lines.{Name}
 use Rattle.vl_engine_model.specs.Store.Things.{thing_of}
 use Rattle.vl_script_model.specs.Sequential.{history_of}
-use Rattle.vl_replay.proofs.Names.BeginMaking.{none_or_some}
-use Rattle.vl_replay.proofs.Passes.Used.{tested}
+use Rattle.vl_replay_laws.specs.laws.Names.BeginMaking.{none_or_some}
+use Rattle.vl_replay_laws.specs.laws.Passes.Used.{tested}
 use Rattle.vl_replay.proofs.replayer.lines.name_in_use.Goals as goal
 
 some_same : (a b : Name) → Some a ≡ Some b → a ≡ b

@@ -3,7 +3,7 @@ use Rattle.std.proofs.Common.{subst, sym}
 use Rattle.vl_steps.specs.Merging.{plan_outcome}
 use Rattle.vl_space.specs.Removing.{Removes}
 use Rattle.vl_engine_model.specs.Decides.{Decides, as_before, no_effects}
-use Rattle.vl_replay.specs.Choosing.{chosen}
+use Rattle.vl_replay_laws.specs.Choosing.{chosen}
 use Rattle.vl_replay.proofs.replayer.merging.choose.Goals as goal
 
 pub returns-in-Due-clause-removes : goal.returns-in-Due-clause-removes

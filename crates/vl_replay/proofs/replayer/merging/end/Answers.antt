@@ -9,20 +9,20 @@ use Rattle.vl_engine.specs.UnderWay.{IsUnderWay}
 use Rattle.vl_engine_model.specs.Jobs.{job_ended}
 use Rattle.vl_script_model.specs.Durable.{CarriesOut}
 use Rattle.vl_replay.specs.Handed.{CanHandIn}
-use Rattle.vl_replay.specs.Replaying.{Merges, state_by}
+use Rattle.vl_replay_laws.specs.Replaying.{Merges, state_by}
 use Rattle.vl_script_model.specs.Stored.{IsStopped, IsStored}
 use Rattle.vl_script.specs.declared.answer.Answer.TheVariants as answers
 use Rattle.vl_replay.proofs.Merges.Handing.{can_still, under_way}
-use Rattle.vl_replay.proofs.Merges.Keeping.{drop_keeps_work, merges_kept}
+use Rattle.vl_replay_laws.specs.laws.Merges.Keeping.{drop_keeps_work, merges_kept}
 use Rattle.vl_script_model.specs.laws.Explained.{only_reader}
 use Rattle.vl_script_model.specs.laws.Growing.{drop_keeps}
 use Rattle.vl_engine_model.specs.Store.Dispatch.{drop_by}
 use Rattle.vl_engine_model.specs.Store.Things.{AJob, Thing, thing_of}
 use Rattle.vl_script_model.specs.Sequential.{history_of}
-use Rattle.vl_replay.proofs.Disk.Carried.{quiet_carries}
-use Rattle.vl_replay.proofs.Merges.Dropping.{drop_carries, drop_makes, drop_merges}
-use Rattle.vl_replay.proofs.Merges.Waiting.{merges_behind, no_merge_named, took, took_none}
-use Rattle.vl_replay.proofs.Names.Serving.{represents}
+use Rattle.vl_replay_laws.specs.laws.Disk.Carried.{quiet_carries}
+use Rattle.vl_replay_laws.specs.laws.Merges.Dropping.{drop_carries, drop_makes, drop_merges}
+use Rattle.vl_replay_laws.specs.laws.Merges.Waiting.{merges_behind, no_merge_named, took, took_none}
+use Rattle.vl_replay_laws.specs.laws.Names.Serving.{represents}
 use Rattle.vl_space.specs.Removing.{Removes}
 use Rattle.vl_replay.proofs.replayer.merging.end.Goals as goal
 

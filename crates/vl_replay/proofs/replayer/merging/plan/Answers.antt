@@ -11,10 +11,11 @@ use Rattle.vl_engine_model.specs.Rulings.Plan.{with_job}
 use Rattle.vl_engine_model.specs.Store.Things.{Step, only, thing_of}
 use Rattle.vl_engine_model.specs.declared.job.Job.{Job}
 use Rattle.vl_model.specs.declared.counter.Counter.{Counter}
-use Rattle.vl_replay.specs.Drawn.{drawn_all}
+use Rattle.vl_replay_laws.specs.Drawn.{drawn_all}
 use Rattle.vl_script_model.specs.Durable.{CarriesOut, LeadsTo}
-use Rattle.vl_replay.specs.Choosing.{chosen, line_for}
-use Rattle.vl_replay.specs.Replaying.{Merges, StandsMerging}
+use Rattle.vl_replay_laws.specs.Choosing.{chosen, line_for}
+use Rattle.vl_replay_laws.specs.Replaying.{Merges}
+use Rattle.vl_replay.specs.Served.{StandsMerging}
 use Rattle.vl_script_model.specs.Sequential.{State, history_of, state_after, step_to}
 use Rattle.vl_script_model.specs.Stored.{IsStopped, IsStored}
 use Rattle.vl_script_model.specs.declared.fails.Halt.{Halt}
@@ -23,7 +24,7 @@ use Rattle.vl_script.specs.declared.answer.Answer.TheVariants as answers
 use Rattle.vl_replay.proofs.CarryingTables.{out_is}
 use Rattle.vl_script_model.specs.laws.DiskSteps.{IsWatched}
 use Rattle.vl_replay.proofs.CarryingRemoved.{LeavesDrawn}
-use Rattle.vl_replay.proofs.Merges.Planning.{planned_state}
+use Rattle.vl_replay_laws.specs.laws.Merges.Planning.{planned_state}
 use Rattle.vl_replay.proofs.Merges.GivenUp.{Abandons, exhausted_leads, exhausted_leaves, exhausted_makes, exhausted_merges, none_of}
 use Rattle.vl_replay.proofs.Merges.GivenUp.{not_halted, stopped_fault, stopped_leads, stopped_named, stopped_sound}
 use Rattle.vl_replay.proofs.Merges.GivenUp.{stopped_undamaged, unplanned_leads}
@@ -31,9 +32,9 @@ use Rattle.vl_replay.proofs.Merges.PlanLine.{WasMerged, handed_waits, idle_step,
 use Rattle.vl_replay.proofs.Merges.PlanLine.{merge_leaves, merge_waits, none_due, none_waits, opened_leaves, planned_as}
 use Rattle.vl_replay.proofs.Merges.PlanLine.{still_open, unplanned_carries, unplanned_makes, unplanned_merges}
 use Rattle.vl_replay.proofs.Merges.PlanLine.{waiting_idle, was_merged}
-use Rattle.vl_replay.specs.Standing.{open_in}
-use Rattle.vl_replay.proofs.Names.BeginMaking.{unread_of}
-use Rattle.vl_replay.proofs.Names.Serving.{represents}
+use Rattle.vl_replay_laws.specs.Standing.{open_in}
+use Rattle.vl_replay_laws.specs.laws.Names.BeginMaking.{unread_of}
+use Rattle.vl_replay_laws.specs.laws.Names.Serving.{represents}
 use Rattle.vl_replay.proofs.replayer.merging.plan.Given as given
 use Rattle.vl_space.specs.Removing.{Removes}
 use Rattle.vl_replay.proofs.replayer.merging.plan.Goals as goal

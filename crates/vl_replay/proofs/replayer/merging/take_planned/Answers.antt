@@ -1,5 +1,5 @@
 use Rattle.std.proofs.Common.{sym, ◌∙◌}
-use Rattle.vl_replay.proofs.Merges.Waiting.{takes}
+use Rattle.vl_replay_laws.specs.laws.Merges.Waiting.{takes}
 use Rattle.vl_replay.proofs.replayer.merging.take_planned.Goals as goal
 
 pub returns-in-Some : goal.returns-in-Some

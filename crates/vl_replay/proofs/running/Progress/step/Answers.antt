@@ -2,14 +2,14 @@ use Rattle.std.proofs.Common.{◌≡◌, ◌≢◌, ◌∙◌, ◌++◌, ℕ, Li
 use Rattle.vl_disk.specs.Faults.{Rose}
 use Rattle.vl_script_model.specs.Endings.{Evidence, no_memory_line, read_fault_line}
 use Rattle.vl_script_model.specs.Reading.{ReadsOn, streams}
-use Rattle.vl_replay.specs.Replaying.{StandsFor, disk_of}
+use Rattle.vl_replay.specs.Served.{StandsFor, disk_of}
 use Rattle.vl_script_model.specs.Runs.{outside}
 use Rattle.vl_script_model.specs.Steps.{kept, Steps}
 use Rattle.vl_script_model.specs.Stored.{IsStopped, IsStored}
 use Rattle.vl_engine_laws.specs.Shown.{Shown}
 use Rattle.vl_script_model.specs.declared.ending.Ending.{Ending}
 use Rattle.vl_script_model.specs.declared.ending.Ending.TheVariants.{NoMemory, ReadFault, ReaderFault}
-use Rattle.vl_script_model.specs.declared.input.lines.Next.TheVariants.{Line as WholeLine, LastLine, TooLong, End}
+use Rattle.vl_script.specs.declared.next.Next.TheVariants.{Line as WholeLine, LastLine, TooLong, End}
 use Rattle.vl_script_model.specs.laws.Ends.{too_long_is_bad, finished, finish_counts, last_unread, line_leaves_disk, ended_lines-none, or_cut}
 use Rattle.vl_script_model.specs.laws.ShownDisk.{shown_stays, stored_exactly}
 use Rattle.vl_replay.proofs.Runs.ReadingOn.{ends_at_long, finishes_otherwise, reads_all, reads_end, reads_last, reads_line}

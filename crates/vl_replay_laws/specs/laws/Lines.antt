@@ -1,0 +1,5 @@
+-- Lines as they are carried out, whichever they are.
+pub mod Passed
+pub mod Ruled
+pub mod Sweeps
+pub mod Unmoved

@@ -1,5 +1,0 @@
-//! A test of the commit lock.
-#![tactic(auto)]
-
-#[cfg(test)]
-mod waiting;
