@@ -1,6 +1,5 @@
 //! What steps of an engine are made of: what a commit, a rotation, a flush, the tables of a merge, an install and a relocation
-//! take of memory before anything changes, and what they then do to the disk. No call here changes what an engine keeps of
-//! which files can go, or of how much of its logs is live.
+//! take of memory before anything changes, and what they then do to the disk.
 #![tactic(auto)]
 
 mod done;

@@ -25,7 +25,7 @@ true_false is = cc
 
 -- ---- the same number
 
--- So it is of entries: the least number at which the key can be read is told by them.
+-- The least number at which a key can be read is told by entries that have so much of its versions.
 pub low_exact : (h : History) (es : List Entry) (to floor keep since : ℕ) (key : List ℕ) → floor ≤ to → AreOf h es
     → IsSpared h es to floor keep since → low_of (versions_in es key) floor keep since ≡ low h floor keep since key
 low_exact h es to floor zero since key within of spared = refl
