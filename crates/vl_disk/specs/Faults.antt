@@ -20,6 +20,11 @@ pub record HasCause (before now : ℕ) (failed : Type 0) : Type 0 where
   pub rose : failed → Rose before now
   pub steady : (failed → ⊥) → now ≡ before
 
+-- a call of what is steady doesn't fail, and leaves it steady
+pub record StaysSteady (before now failed : Type 0) : Type 0 where
+  pub never : before → failed → ⊥
+  pub stays : before → now
+
 -- A fault was counted for each call past the stop, and for nothing else. The counts stand still at their last value.
 pub record CountsPastStop (stop calls faults : ℕ) : Type 0 where
   pub at_least : calls - stop ≤ faults

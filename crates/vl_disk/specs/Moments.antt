@@ -5,14 +5,21 @@ use Rattle.std.proofs.Common.{inl, inr, ⊎_elim, sym, subst, arith}
 use Rattle.vl_disk.specs.declared.watched.Watched.{Ghosts}
 use Rattle.vl_disk.specs.DiskState.{DiskState}
 
--- What contracts see of a disk's past: the moment, what it was at some moment since an earlier one, and when its calls fail.
+-- What contracts see of a disk's past: the moment, what it was at some moment since an earlier one, when its calls fail, and
+-- that what it gives is steady.
 pub record Past : Type 1 where
   pub moment : ℕ
   pub was : ℕ → DiskState → Type 0
   pub fails_past : Option ℕ → Type 0
+  pub gives_steady : Type 0
 
 abbrev pub past_of : {D : Type 0} → Ghosts D → D → Past
-past_of g disk = record { moment = g.moment disk; was = g.states_since disk; fails_past = g.fails_past disk }
+past_of g disk = record {
+  moment = g.moment disk;
+  was = g.states_since disk;
+  fails_past = g.fails_past disk;
+  gives_steady = g.gives_steady disk;
+}
 
 -- Time goes on by a call, from one moment to another.
 pub record Passes (old new : Past) (during : DiskState → Type 0) : Type 0 where
@@ -21,8 +28,10 @@ pub record Passes (old new : Past) (during : DiskState → Type 0) : Type 0 wher
   pub nothing_else : (t : ℕ) (state : DiskState) → t ≤ old.moment → new.was t state → old.was t state ⊎ during state
   -- what the old one had been, the new one was;
   pub keeps : (t : ℕ) (state : DiskState) → t ≤ old.moment → old.was t state → new.was t state
-  -- and it fails when the old one was to
+  -- it fails when the old one was to;
   pub as_planned : (stop : Option ℕ) → old.fails_past stop → new.fails_past stop
+  -- and what it gives is steady if it was so of the old one
+  pub steady : old.gives_steady → new.gives_steady
 
 -- so it is with what a disk may be while a call is under way, by what it was before; of one that doesn't tell that, nothing
 -- is said
@@ -49,6 +58,7 @@ passes_weaker old new P Q passes weaker = record {
       (λ (before : old.was t state). inl before) (λ (now : P state). inr (weaker state now)) (passes.nothing_else t state earlier was);
   keeps = passes.keeps;
   as_planned = passes.as_planned;
+  steady = passes.steady;
 }
 
 -- two calls, one after the other
@@ -64,6 +74,7 @@ passes_then old mid new P Q R first second here there = record {
       (second.nothing_else t state (omega (arith, earlier, first.later)) was);
   keeps = λ t state earlier was. second.keeps t state (omega (arith, earlier, first.later)) (first.keeps t state earlier was);
   as_planned = λ stop plan. second.as_planned stop (first.as_planned stop plan);
+  steady = λ was. second.steady (first.steady was);
 }
 
 -- no call
@@ -73,6 +84,7 @@ passes_none now P = record {
   nothing_else = λ t state earlier was. inl was;
   keeps = λ t state earlier was. was;
   as_planned = λ stop plan. plan;
+  steady = λ was. was;
 }
 
 -- a run of calls, one after the other

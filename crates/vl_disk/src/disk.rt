@@ -105,7 +105,8 @@ pub trait Disk: Watched {
         ensures named { IfOk result (λ writer. Self.Writer.named writer ≡ name) }
         ensures file { IfOk result (λ writer. ForSome (Self.told self.old)
             (λ _. Self.Writer.file writer ≡ Some new_file)) }
-        ensures faults { IfOk result (λ writer. Self.Writer.faults writer ≡ 0) };
+        ensures faults { IfOk result (λ writer. Self.Writer.faults writer ≡ 0) }
+        ensures steady { IfOk result (λ writer. Self.gives_steady self.old → Self.Writer.steady writer) };
 
     /// Takes a file back that was lent, as its writer has it. It wants no memory and can't fail.
     fn adopt(&mut self, writer: Self::Writer)
@@ -115,7 +116,8 @@ pub trait Disk: Watched {
 
     /// A reader of the files that are held.
     fn reader(&self, alloc: Global) -> Result<Self::Reader, NoMemory>
-        ensures { IfOk result (λ reader. Self.Reader.faults reader ≡ 0) };
+        ensures faults { IfOk result (λ reader. Self.Reader.faults reader ≡ 0) }
+        ensures steady { IfOk result (λ reader. Self.gives_steady self.now → Self.Reader.steady reader) };
 
     /// What it tells is lawful.
     ghost lawful: { (disk : Self) (state : DiskState) → Self.told disk ≡ Some state → IsLawful state };

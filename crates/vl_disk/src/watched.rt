@@ -30,4 +30,8 @@ pub trait Watched {
     /// Of its calls just the changing ones past so many fail, or none. A disk that doesn't tell when it fails claims
     /// nothing.
     ghost fails_past: { Self → Option ℕ → Type 0 };
+
+    /// Whatever reads the files that it shares, or writes those that it lends, is steady: it never fails. A disk that can't
+    /// tell claims nothing.
+    ghost gives_steady: { Self → Type 0 };
 }

@@ -101,6 +101,8 @@ impl<R: Files<File = File>> Watched for FolderDisk<R> {
     ghost fails_cleanly = { false };
 
     ghost fails_past = { λ _ _. ⊥ };
+
+    ghost gives_steady = { λ _. ⊥ };
 }
 
 impl<R: Files<File = File> + Eprint + Copy> Disk for FolderDisk<R> {

@@ -33,6 +33,8 @@ impl<R: Files<File = File> + Eprint> Reader for FolderReader<R> {
 
     ghost faults = { λ reader. reader.faults };
 
+    ghost steady = { λ _. ⊥ };
+
     fn read(&mut self, held: &FolderHeld, place: u64, out: &mut [u8]) -> Result<(), Failed> {
         if let Err(error) = held.read(&self.rt, self.alloc, place, out) {
             self.faults = self.faults.saturating_add(1);

@@ -45,6 +45,8 @@ impl<R: Eprint + Drop> Writer for FolderWriter<R> {
 
     ghost faults = { λ writer. writer.faults };
 
+    ghost steady = { λ _. ⊥ };
+
     fn append(&mut self, piece: &[u8]) -> Result<(), DiskFail> {
         if let Err(error) = self.lent.file.append(piece) {
             self.faults = self.faults.saturating_add(1);

@@ -27,8 +27,9 @@ use Rattle.vl_mem.specs.declared.mem_disk.MemDisk.{MemDisk}
 use Rattle.vl_mem.specs.ChangePlan.{FollowsPlan}
 use Rattle.vl_mem.specs.Entry.{Entries, HasFiles, entry_of, file_of, plain, standing_in}
 use Rattle.vl_mem.specs.Event.{after_event, replayed-push, state_after, told_lawful, WasSince}
-use Rattle.vl_mem.specs.MemDisk.{state_of, told_by, room_of, Goes}
+use Rattle.vl_mem.specs.MemDisk.{state_of, told_by, room_of, failing_at, Goes, KeepsOtherWriters, KeepsWriters}
 use Rattle.vl_mem.specs.FailsPast.{FailsPast, changed_past, read_past, same_past}
+use Rattle.vl_mem.specs.Steady.{GivesSteady, gave_steady, keeps_steady}
 use Rattle.vl_mem.proofs.Steps.{stood}
 
 abbrev watched : Ghosts MemDisk
@@ -48,8 +49,9 @@ le_or_last k n le = grind arith
 -- the call left one event, and fails when it was to
 passes_push : (old new : MemDisk) (event : Event) (P : DiskState → Type 0) → new.events.items ≡ old.events.items ++ event ∷ []
     → ((now : DiskState) → now ≡ after_event event (state_of old) → P now)
-    → ((stop : Option ℕ) → FailsPast old stop → FailsPast new stop) → Passes (past_of watched old) (past_of watched new) P
-passes_push old new event P pushed there planned = record {
+    → ((stop : Option ℕ) → FailsPast old stop → FailsPast new stop) → (GivesSteady old → GivesSteady new)
+    → Passes (past_of watched old) (past_of watched new) P
+passes_push old new event P pushed there planned steady = record {
   later = omega (arith, longer);
   nothing_else = λ t now le left. let was = subst (λ es. WasSince es t now) pushed left in ⊎_elim
       (λ (within : was.0 ≤ length events). inl
@@ -67,6 +69,7 @@ passes_push old new event P pushed there planned = record {
         ∙ sym (ap state_after (take-append-le left.0 events (event ∷ []) left.2)),
   );
   as_planned = planned;
+  steady = steady;
 }
   where
     events : List Event
@@ -77,12 +80,14 @@ passes_push old new event P pushed there planned = record {
 
 -- and where it left none
 pub passes_still : (old new : MemDisk) (P : DiskState → Type 0) → new.events.items ≡ old.events.items
-    → ((stop : Option ℕ) → FailsPast old stop → FailsPast new stop) → Passes (past_of watched old) (past_of watched new) P
-passes_still old new P same planned = record {
+    → ((stop : Option ℕ) → FailsPast old stop → FailsPast new stop) → (GivesSteady old → GivesSteady new)
+    → Passes (past_of watched old) (past_of watched new) P
+passes_still old new P same planned steady = record {
   later = omega (arith, ap length same);
   nothing_else = λ t now le left. inl (subst (λ es. WasSince es t now) same left);
   keeps = λ t now le left. subst (λ es. WasSince es t now) (sym same) left;
   as_planned = planned;
+  steady = steady;
 }
 
 -- ---- counts
@@ -107,7 +112,7 @@ cause_of a b rest failed cause = record {
   steady = λ passes. ap (λ n. n + rest) (cause.steady passes);
 }
 
-module _ (old mid new : MemDisk) (failed : Bool) (counts : Counts old mid failed) where
+module _ (old mid new : MemDisk) (failed : Bool) (counts : Counts old mid failed) (keeps : KeepsWriters old new) where
   abbrev now : DiskState
   now = state_of old
 
@@ -125,7 +130,8 @@ module _ (old mid new : MemDisk) (failed : Bool) (counts : Counts old mid failed
       time = passes_push old new goes.event (While (told_by old) during) pushed
           (λ next is disk told. subst (λ d. during d next) (some_state now disk told) (meanwhile next (is ∙ goes.does now)))
           (λ stop past. same_past mid new stop
-          (changed_past old mid stop past (IsTrue failed) counts.follows counts.reads) goes.changes goes.reads);
+          (changed_past old mid stop past (IsTrue failed) counts.follows counts.reads) goes.changes goes.reads)
+          (keeps_steady old new (ap (λ p. p.failing) (goes.reads ∙ counts.reads)) keeps);
       cause = subst (λ n. HasCause (old.changes.listed.faults + old.reads.faults) n (IsTrue failed))
           (sym (ap (λ p. p.listed.faults + new.reads.faults) goes.changes
           ∙ ap (λ p. mid.changes.listed.faults + p.faults) (goes.reads ∙ counts.reads)))
@@ -133,25 +139,25 @@ module _ (old mid new : MemDisk) (failed : Bool) (counts : Counts old mid failed
     }
 
 module _ (name : Name) (old mid new : MemDisk) where
-  pub creates : {X E : Type 0} (x : X) → Counts old mid false → Goes mid new (created name)
+  pub creates : {X E : Type 0} (x : X) → Counts old mid false → KeepsWriters old new → Goes mid new (created name)
       → UsesChange name (room_of old) (room_of new) → Creates {E = E} watched name old new (Ok x)
-  creates x counts goes spare = record {
-    created = turns old mid new false counts (created name) goes;
-    stands = created_stands name (told_by old) (told_by new) (turns old mid new false counts (created name) goes);
+  creates x counts keeps goes spare = record {
+    created = turns old mid new false counts keeps (created name) goes;
+    stands = created_stands name (told_by old) (told_by new) (turns old mid new false counts keeps (created name) goes);
     failed = tt;
     clean = λ _. tt;
-    as_call = as_call old mid new false counts (created name) goes (WhileCreating name) (λ next is. inr is);
+    as_call = as_call old mid new false counts keeps (created name) goes (WhileCreating name) (λ next is. inr is);
     spare = spare;
   }
 
-  pub removes : {X E : Type 0} (x : X) → Counts old mid false → Goes mid new (without name)
+  pub removes : {X E : Type 0} (x : X) → Counts old mid false → KeepsWriters old new → Goes mid new (without name)
       → SameSpare (room_of old) (room_of new) → Removes {E = E} watched name old new (Ok x)
-  removes x counts goes spare = record {
-    removed = turns old mid new false counts (without name) goes;
-    free = removed_free name (told_by old) (told_by new) (turns old mid new false counts (without name) goes);
+  removes x counts keeps goes spare = record {
+    removed = turns old mid new false counts keeps (without name) goes;
+    free = removed_free name (told_by old) (told_by new) (turns old mid new false counts keeps (without name) goes);
     failed = tt;
     clean = λ _. tt;
-    as_call = as_call old mid new false counts (without name) goes (WhileRemoving name) (λ next is. inr is);
+    as_call = as_call old mid new false counts keeps (without name) goes (WhileRemoving name) (λ next is. inr is);
     spare = spare;
   }
 
@@ -159,90 +165,90 @@ module _ (name : Name) (old mid new : MemDisk) where
     told_stands : (disk : DiskState) → told_by old ≡ Some disk → Stands name disk
     told_stands disk is = subst (Stands name) (some_state (state_of old) disk is) stands
 
-    pub syncs : {X E : Type 0} (x : X) → Counts old mid false → Goes mid new (synced name)
+    pub syncs : {X E : Type 0} (x : X) → Counts old mid false → KeepsWriters old new → Goes mid new (synced name)
         → SameSpare (room_of old) (room_of new) → Syncs {E = E} watched name old new (Ok x)
-    syncs x counts goes spare = record {
-      synced = turns old mid new false counts (synced name) goes;
+    syncs x counts keeps goes spare = record {
+      synced = turns old mid new false counts keeps (synced name) goes;
       failed = tt;
-      stands = changed_stands name synced_file (told_by old) (told_by new) (turns old mid new false counts (synced name) goes) told_stands;
-      as_call = as_call old mid new false counts (synced name) goes (WhileSyncing name) (λ next is. inr is);
+      stands = changed_stands name synced_file (told_by old) (told_by new) (turns old mid new false counts keeps (synced name) goes) told_stands;
+      as_call = as_call old mid new false counts keeps (synced name) goes (WhileSyncing name) (λ next is. inr is);
       spare = spare;
     }
 
-    module _ (piece : List ℕ) (failed : Bool) (taken : ℕ) (counts : Counts old mid failed)
+    module _ (piece : List ℕ) (failed : Bool) (taken : ℕ) (counts : Counts old mid failed) (keeps : KeepsWriters old new)
         (goes : Goes mid new (appended name piece taken)) (within : taken ≤ length piece) where
       hands : IsChangedBy (appended name piece taken) (told_by old) (told_by new)
-      hands = turns old mid new failed counts (appended name piece taken) goes
+      hands = turns old mid new failed counts keeps (appended name piece taken) goes
 
       still_stands : (disk : DiskState) → told_by new ≡ Some disk → Stands name disk
       still_stands = changed_stands name (lengthened piece taken) (told_by old) (told_by new) hands told_stands
 
       appending : ChangingCall watched old new (WhileAppending name piece) (IsTrue failed)
-      appending = as_call old mid new failed counts (appended name piece taken) goes (WhileAppending name piece)
+      appending = as_call old mid new failed counts keeps (appended name piece taken) goes (WhileAppending name piece)
           (λ next is. inr (taken, within, is))
 
-    pub appends : {X E : Type 0} (x : X) (piece : List ℕ) (taken : ℕ) → taken ≡ length piece → Counts old mid false
+    pub appends : {X E : Type 0} (x : X) (piece : List ℕ) (taken : ℕ) → taken ≡ length piece → Counts old mid false → KeepsWriters old new
         → Goes mid new (appended name piece taken) → UsesAppend name (room_of old) (room_of new)
         → Appends {E = E} watched name piece old new (Ok x)
-    appends x piece taken all counts goes spare = record {
+    appends x piece taken all counts keeps goes spare = record {
       appended = subst (λ n. IsChangedBy (appended name piece n) (told_by old) (told_by new)) all
-          (hands piece false taken counts goes (omega (arith, all)));
+          (hands piece false taken counts keeps goes (omega (arith, all)));
       failed = tt;
       clean = λ _. tt;
-      stands = still_stands piece false taken counts goes (omega (arith, all));
-      as_call = appending piece false taken counts goes (omega (arith, all));
+      stands = still_stands piece false taken counts keeps goes (omega (arith, all));
+      as_call = appending piece false taken counts keeps goes (omega (arith, all));
       spare = spare;
     }
 
-    pub fails_to_append : {X E : Type 0} (e : E) (piece : List ℕ) → Counts old mid true
+    pub fails_to_append : {X E : Type 0} (e : E) (piece : List ℕ) → Counts old mid true → KeepsWriters old new
         → Goes mid new (appended name piece 0) → UsesAppend name (room_of old) (room_of new)
         → Appends {T = X} watched name piece old new (Err e)
-    fails_to_append e piece counts goes spare = record {
+    fails_to_append e piece counts keeps goes spare = record {
       appended = tt;
-      failed = (0, omega arith, hands piece true 0 counts goes (omega arith));
-      clean = λ _. hands piece true 0 counts goes (omega arith);
-      stands = still_stands piece true 0 counts goes (omega arith);
-      as_call = appending piece true 0 counts goes (omega arith);
+      failed = (0, omega arith, hands piece true 0 counts keeps goes (omega arith));
+      clean = λ _. hands piece true 0 counts keeps goes (omega arith);
+      stands = still_stands piece true 0 counts keeps goes (omega arith);
+      as_call = appending piece true 0 counts keeps goes (omega arith);
       spare = spare;
     }
 
-    module _ (len left : ℕ) (failed : Bool) (counts : Counts old mid failed)
+    module _ (len left : ℕ) (failed : Bool) (counts : Counts old mid failed) (keeps : KeepsWriters old new)
         (goes : Goes mid new (cut_to name len left)) (short : len ≤ left) (inside : IsInside name left (state_of old)) where
       shortens : IsChangedBy (cut_to name len left) (told_by old) (told_by new)
-      shortens = turns old mid new failed counts (cut_to name len left) goes
+      shortens = turns old mid new failed counts keeps (cut_to name len left) goes
 
       stands_cut : (disk : DiskState) → told_by new ≡ Some disk → Stands name disk
       stands_cut = changed_stands name (shortened len left) (told_by old) (told_by new) shortens told_stands
 
       cutting : ChangingCall watched old new (WhileCutting name len) (IsTrue failed)
-      cutting = as_call old mid new failed counts (cut_to name len left) goes (WhileCutting name len)
+      cutting = as_call old mid new failed counts keeps (cut_to name len left) goes (WhileCutting name len)
           (λ next is. inr (left, short, inside, is))
 
-    pub cuts : {X E : Type 0} (x : X) (len : ℕ) → Counts old mid false → Goes mid new (cut_to name len len)
+    pub cuts : {X E : Type 0} (x : X) (len : ℕ) → Counts old mid false → KeepsWriters old new → Goes mid new (cut_to name len len)
         → IsInside name len (state_of old) → UsesChange name (room_of old) (room_of new) → Cuts {E = E} watched name len old new (Ok x)
-    cuts x len counts goes inside spare = record {
-      cut = shortens len len false counts goes (omega arith) inside;
+    cuts x len counts keeps goes inside spare = record {
+      cut = shortens len len false counts keeps goes (omega arith) inside;
       failed = tt;
       clean = λ _. tt;
-      stands = stands_cut len len false counts goes (omega arith) inside;
-      as_call = cutting len len false counts goes (omega arith) inside;
+      stands = stands_cut len len false counts keeps goes (omega arith) inside;
+      as_call = cutting len len false counts keeps goes (omega arith) inside;
       spare = spare;
     }
 
-    pub fails_to_cut : {X E : Type 0} (e : E) (len whole : ℕ) → Counts old mid true
+    pub fails_to_cut : {X E : Type 0} (e : E) (len whole : ℕ) → Counts old mid true → KeepsWriters old new
         → Goes mid new (cut_to name len whole) → IsInside name len (state_of old) → whole ≡ length (file_at (state_of old) name).bytes
         → UsesChange name (room_of old) (room_of new) → Cuts {T = X} watched name len old new (Err e)
-    fails_to_cut e len whole counts goes within is spare =
+    fails_to_cut e len whole counts keeps goes within is spare =
         let short : len ≤ whole = omega (arith, within, is) in
         let inside : IsInside name whole (state_of old) = omega (arith, is) in
-        let turned = shortens len whole true counts goes short inside in
+        let turned = shortens len whole true counts keeps goes short inside in
         record {
           cut = tt;
           failed = (whole, short, (λ disk told. subst (IsInside name whole) (some_state (state_of old) disk told) inside), turned);
           clean = λ _ disk told. subst (λ n. IsChangedBy (cut_to name len n) (told_by old) (told_by new))
               (is ∙ ap (λ d. length (file_at d name).bytes) (some_state (state_of old) disk told)) turned;
-          stands = stands_cut len whole true counts goes short inside;
-          as_call = cutting len whole true counts goes short inside;
+          stands = stands_cut len whole true counts keeps goes short inside;
+          as_call = cutting len whole true counts keeps goes short inside;
           spare = spare;
         }
 
@@ -259,9 +265,9 @@ shown name entries disk entry has stands found =
 
 -- a sync of a file that is wholly synced leaves no event
 pub syncs_again : {X E : Type 0} (name : Name) (old new : MemDisk) (entry : Entry) (x : X)
-    → IsSome (get (state_of old).standing name) → Counts old new false → entry_of old.entries name ≡ Some entry → entry.wholly_synced ≡ true
+    → IsSome (get (state_of old).standing name) → Counts old new false → KeepsWriters old new → entry_of old.entries name ≡ Some entry → entry.wholly_synced ≡ true
     → SameSpare (room_of old) (room_of new) → Syncs {E = E} watched name old new (Ok x)
-syncs_again name old new entry x stands counts found whole spare = record {
+syncs_again name old new entry x stands counts keeps found whole spare = record {
   synced = ap (λ es. Some (state_after es)) counts.events
       ∙ ap Some (sym (synced_again name (state_of old) (file_at (state_of old) name) lawful (there (get (state_of old).standing name) stands)
       (sym (ap (λ (f : File). f.wholly_synced) (shown name old.entries (state_of old) entry old.kept.files stands found)) ∙ whole)));
@@ -271,7 +277,8 @@ syncs_again name old new entry x stands counts found whole spare = record {
   as_call = record {
     calls = counts.follows.calls;
     time = passes_still old new (While (told_by old) (WhileSyncing name)) counts.events
-        (λ stop past. changed_past old new stop past (IsTrue false) counts.follows counts.reads);
+        (λ stop past. changed_past old new stop past (IsTrue false) counts.follows counts.reads)
+        (keeps_steady old new (ap (λ p. p.failing) counts.reads) keeps);
     cause = subst (λ n. HasCause (old.changes.listed.faults + old.reads.faults) n (IsTrue false))
         (ap (λ p. new.changes.listed.faults + p.faults) (sym counts.reads))
         (cause_of old.changes.listed.faults new.changes.listed.faults old.reads.faults false counts.cause);
@@ -302,17 +309,17 @@ module _ (old new : MemDisk) (event : Event) (change : DiskState → DiskState)
   told_after = ap (λ es. Some (state_after es)) pushed ∙ ap Some (replayed-push old.events.items event empty_disk ∙ does (state_of old))
 
   time_after : (during : DiskState → DiskState → Type 0) → ((disk next : DiskState) → next ≡ change disk → during disk next)
-      → ((stop : Option ℕ) → FailsPast old stop → FailsPast new stop)
+      → ((stop : Option ℕ) → FailsPast old stop → FailsPast new stop) → (GivesSteady old → GivesSteady new)
       → Passes (past_of watched old) (past_of watched new) (While (told_by old) during)
-  time_after during meanwhile planned = passes_push old new event (While (told_by old) during) pushed
+  time_after during meanwhile planned steady = passes_push old new event (While (told_by old) during) pushed
       (λ next is disk told. subst (λ d. during d next) (some_state (state_of old) disk told)
-      (meanwhile (state_of old) next (is ∙ does (state_of old)))) planned
+      (meanwhile (state_of old) next (is ∙ does (state_of old)))) planned steady
 
 pub lends : (name : Name) (old mid new : MemDisk) (fails : Bool) → fails ≡ false → mid.events.items ≡ old.events.items
     → mid.changes ≡ old.changes
     → listed.Follows old.reads mid.reads (IsTrue fails) → HasCause old.reads.faults mid.reads.faults (IsTrue fails)
-    → Goes mid new (without name) → UsesLend name (room_of old) (room_of new) → Lends watched name old new (IsTrue false)
-lends name old mid new fails is events changes follows cause goes spare =
+    → KeepsOtherWriters name old new → failing_at new name ≡ [] → Goes mid new (without name) → UsesLend name (room_of old) (room_of new) → Lends watched name old new (IsTrue false)
+lends name old mid new fails is events changes follows cause keeps none goes spare =
     let pushed : new.events.items ≡ old.events.items ++ goes.event ∷ [] = goes.events ∙ ap (λ es. es ++ goes.event ∷ []) events in
     let passed : listed.Follows old.reads mid.reads (IsTrue false) = subst
     (λ b. listed.Follows old.reads mid.reads (IsTrue b)) is follows in
@@ -323,7 +330,8 @@ lends name old mid new fails is events changes follows cause goes spare =
       kept = λ failed. absurd (false_true failed);
       calls = ap (λ p. p.listed.calls) (goes.changes ∙ changes);
       time = time_after old new goes.event (without name) goes.does pushed (WhileRemoving name) (λ disk next is. inr is)
-          (λ stop past. same_past mid new stop (read_past old mid stop past (IsTrue false) changes passed caused) goes.changes goes.reads);
+          (λ stop past. same_past mid new stop (read_past old mid stop past (IsTrue false) changes passed caused) goes.changes goes.reads)
+          (gave_steady name old new (ap (λ p. p.failing) goes.reads ∙ passed.failing) keeps none);
       cause = subst (λ n. HasCause (old.changes.listed.faults + old.reads.faults) n (IsTrue false))
           (sym (ap (λ p. p.listed.faults + new.reads.faults) (goes.changes ∙ changes)
           ∙ ap (λ p. old.changes.listed.faults + p.faults) goes.reads))
@@ -334,9 +342,9 @@ lends name old mid new fails is events changes follows cause goes spare =
 
 -- one that was lent comes back
 pub adopts : (name given : Name) (file : Option File) (left : File) (old new : MemDisk) → name ≡ given
-    → file ≡ Some left → Goes old new (adopted name left) → UsesAdopt name (room_of old) (room_of new)
+    → file ≡ Some left → KeepsWriters old new → Goes old new (adopted name left) → UsesAdopt name (room_of old) (room_of new)
     → Adopts watched given file old new
-adopts name given file left old new same is goes spare =
+adopts name given file left old new same is keeps goes spare =
     subst (λ (n : Name). Adopts watched n file old new) same (subst (λ (f : Option File). Adopts watched name f old new) (sym is) (record {
       adopted = λ disk told f here. told_after old new goes.event (adopted name left) goes.does goes.events
           ∙ ap (λ d. Some (adopted name left d)) (some_state (state_of old) disk told)
@@ -345,7 +353,8 @@ adopts name given file left old new same is goes spare =
       calls = ap (λ p. p.listed.calls) goes.changes;
       time = time_after old new goes.event (adopted name left) goes.does goes.events (WhileAdopting name (Some left))
           (λ disk next turned. inr (λ f here. turned ∙ ap (λ g. adopted name g disk) (some_file left f here)))
-          (λ stop past. same_past old new stop past goes.changes goes.reads);
+          (λ stop past. same_past old new stop past goes.changes goes.reads)
+          (keeps_steady old new (ap (λ p. p.failing) goes.reads) keeps);
       faults = ap (λ p. p.listed.faults + new.reads.faults) goes.changes ∙ ap (λ p. old.changes.listed.faults + p.faults) goes.reads;
       spare = spare;
     }))

@@ -28,7 +28,7 @@ use Rattle.vl_mem.specs.declared.entry.Presence.TheVariants.{Absent, Standing, R
 use Rattle.vl_mem.specs.declared.event.Event.{Event}
 use Rattle.vl_mem.specs.declared.event.Event.TheVariants.{Found, Create, Remove, Adopt}
 use Rattle.vl_mem.specs.Event.{IsSound, after_event, replayed-push, state_after}
-use Rattle.vl_mem.specs.Entry.{Entries, Fits, HasFiles, failing_of, Matches, Becomes, KeepsFile, entry_of, file_of}
+use Rattle.vl_mem.specs.Entry.{Entries, Fits, HasFiles, NoneFail, failing_of, Matches, Becomes, KeepsFile, entry_of, file_of}
 use Rattle.vl_mem.specs.Entry.{if_standing, if_removed, is_lent, plain, slots, spare_of, standing_in, removed_in}
 use Rattle.vl_mem.specs.Entry.{appends, removes, IsBlank}
 use Rattle.vl_mem.specs.Kept.{IsKept, slots_of}
@@ -378,6 +378,12 @@ known (Ok x) name entry entries next events capacity blank none adds inserted un
 known (Err e) name entry entries next events capacity blank none adds inserted unchanged ordered kept = kept_same
     entries next events capacity unchanged kept
 
+no_entry : (entries : Entries) → entries.entries ≡ [] → (q : Name) → entry_of entries q ≡ None
+no_entry entries none q = ap (lookup (tree.is_at (name_cmp q))) none
+
+pub none_fail_at_first : (entries : Entries) → entries.entries ≡ [] → NoneFail entries
+none_fail_at_first entries none q = ap failing_of (no_entry entries none q)
+
 -- a disk on which nothing stands yet
 pub kept_at_first : (entries : Entries) (events : List Event) (capacity : ℕ) → entries.entries ≡ [] → events ≡ []
     → IsKept entries events capacity
@@ -393,4 +399,4 @@ kept_at_first entries events capacity no_entries no_events =
     })
   where
     at : (q : Name) → entry_of entries q ≡ None
-    at q = ap (lookup (tree.is_at (name_cmp q))) no_entries
+    at = no_entry entries no_entries

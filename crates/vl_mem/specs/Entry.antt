@@ -93,6 +93,10 @@ abbrev pub failing_of : Option Entry → List ℕ
 failing_of None = []
 failing_of (Some entry) = entry.failing.items
 
+-- no writer is to fail
+abbrev pub NoneFail : Entries → Type 0
+NoneFail entries = (name : Name) → failing_of (entry_of entries name) ≡ []
+
 -- so many bytes may yet come into some room
 abbrev pub room_in : Option (Vec ℕ Global) → ℕ
 room_in None = 0

@@ -16,7 +16,8 @@ pub record FailsPast (disk : MemDisk) (stop : Option ℕ) : Type 0 where
   pub listed_reads : (reads_of disk).failing ≡ []
   pub read_faults : (reads_of disk).faults ≡ 0
 
-none_listed : (plan : Plan) → plan.failing ≡ [] → listed.IsDue plan → ⊥
+-- nothing that isn't listed is due
+pub none_listed : (plan : Plan) → plan.failing ≡ [] → listed.IsDue plan → ⊥
 none_listed plan none is = nothing (subst (λ (numbers : List ℕ). Contains numbers (plan.calls + 1)) none is)
   where
     nothing : Contains [] (plan.calls + 1) → ⊥

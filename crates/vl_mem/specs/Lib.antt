@@ -7,6 +7,7 @@ pub mod Held
 pub mod Kept
 pub mod laws
 pub mod MemDisk
+pub mod Steady
 pub mod StoppingDisk
 pub mod SureDisk
 pub mod Written

@@ -1,5 +1,5 @@
 // What a disk in memory keeps under one name.
-ghost use Rattle.std.specs.Prelude.{◌≡◌, ◌≤◌, length, Some, Ok, true, false, OnOk, OnErr};
+ghost use Rattle.std.specs.Prelude.{◌≡◌, ◌≤◌, [], length, Some, Ok, true, false, OnOk, OnErr};
 
 use crate::outcome::Outcome;
 use crate::written::Written;
@@ -73,6 +73,7 @@ impl Entry {
     /// An entry of a file that stood when the disk was started.
     pub fn found(alloc: Global, bytes: Vec<u8>) -> Self
         ensures presence { result.presence ≡ Standing }
+        ensures failing { result.failing.items ≡ [] }
         ensures file { file_of result ≡ settled bytes.items }
         ensures fits { Fits result }
         ensures slots { slots result ≡ 1 }
@@ -237,6 +238,7 @@ impl Entry {
         requires stands { self.old.presence ≡ Standing }
         requires room { self.old.lend ≡ true }
         ensures failing { result.items ≡ self.old.failing.items }
+        ensures none_left { self.new.failing.items ≡ [] }
         ensures becomes { Becomes self.old self.new Lent (file_of self.old) }
         ensures change { self.new.change ≡ self.old.change }
         ensures buffer { self.new.buffer ≡ self.old.buffer }

@@ -4,6 +4,7 @@ ghost use Rattle.vl_disk.specs.MadeFile.{made};
 ghost use Rattle.vl_disk.specs.Name.{IsNumbered};
 ghost use Rattle.vl_mem.specs.Event.{state_after};
 ghost use Rattle.vl_mem.specs.Kept.{IsKept};
+ghost use Rattle.vl_mem.specs.Entry.{NoneFail};
 
 use crate::entry::Entry;
 use crate::event::{Event, make_room, note};
@@ -21,6 +22,7 @@ pub fn found(
 ) -> Result<(), NoMemory>
     requires { IsNumbered name }
     ensures state { OnOk result (state_after events.new.items ≡ made name bytes.items (state_after events.old.items)) }
+    ensures failing { OnOk result (NoneFail entries.old → NoneFail entries.new) }
     ensures kept { OnOk result (IsKept entries.old events.old.items (vec_capacity events.old)
         → IsKept entries.new events.new.items (vec_capacity events.new)) }
 {

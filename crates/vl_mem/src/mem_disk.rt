@@ -53,6 +53,7 @@ impl MemDisk {
     ghost use Rattle.vl_mem.specs.Kept.{image_of};
     ghost use Rattle.vl_mem.specs.MemDisk.{state_of, told_by, moment_of, changes_of, reads_of, writers_of};
     ghost use Rattle.vl_mem.specs.MemDisk.{failing_at, KeepsFiles, KeepsWriters};
+    ghost use Rattle.vl_mem.specs.Steady.{GivesSteady};
     ghost use Rattle.vl_disk.specs.declared.name.Name.{Name};
 
     /// An empty disk. Of its changing calls exactly those fail that `faults` lists, by their numbers from 1, and of its
@@ -63,6 +64,7 @@ impl MemDisk {
         ensures changes { changes_of result ≡ new_changes faults.items }
         ensures reads { reads_of result ≡ new_plan read_faults.items }
         ensures writers { writers_of result ≡ [] }
+        ensures steady { read_faults.items ≡ [] → GivesSteady result }
     {
         MemDisk {
             alloc,
@@ -86,6 +88,7 @@ impl MemDisk {
         ensures changes { IfOk result (λ disk. changes_of disk ≡ new_changes faults.items) }
         ensures reads { IfOk result (λ disk. reads_of disk ≡ new_plan read_faults.items) }
         ensures writers { IfOk result (λ disk. writers_of disk ≡ []) }
+        ensures steady { IfOk result (λ disk. read_faults.items ≡ [] → GivesSteady disk) }
     {
         let mut entries = BTreeMap::new(alloc);
         let mut events = Vec::new(alloc);
@@ -131,6 +134,7 @@ impl MemDisk {
         ensures changes { IfOk result (λ disk. changes_of disk ≡ new_changes []) }
         ensures reads { IfOk result (λ disk. reads_of disk ≡ new_plan []) }
         ensures writers { IfOk result (λ disk. writers_of disk ≡ []) }
+        ensures steady { IfOk result GivesSteady }
     {
         let MemDisk { alloc, entries, .. } = self;
         let files = files_left(alloc, entries, outcome)?;
@@ -157,6 +161,7 @@ impl Watched for MemDisk {
     ghost use Rattle.vl_mem.specs.Kept.{image_of};
     ghost use Rattle.vl_mem.specs.MemDisk.{told_by, moment_of, was_since, changes_of, faults_of, room_of};
     ghost use Rattle.vl_mem.specs.FailsPast.{FailsPast};
+    ghost use Rattle.vl_mem.specs.Steady.{GivesSteady};
 
     ghost told = { told_by };
 
@@ -173,6 +178,8 @@ impl Watched for MemDisk {
     ghost fails_cleanly = { true };
 
     ghost fails_past = { FailsPast };
+
+    ghost gives_steady = { GivesSteady };
 }
 
 impl Disk for MemDisk {
@@ -197,6 +204,7 @@ impl Disk for MemDisk {
     ghost use Rattle.vl_mem.specs.MemDisk.{writes_of, file_by, CountsChange, CountsRead, KeepsOtherWriters};
     ghost use Rattle.vl_mem.specs.MemDisk.{KeepsWriters};
     ghost use Rattle.vl_mem.specs.FailsPast.{counted_past};
+    ghost use Rattle.vl_mem.specs.Steady.{GivesSteady, IsSteady};
 
     ghost lawful = { λ m. told_lawful m.events.items m.kept.sound };
 
@@ -380,6 +388,7 @@ impl Disk for MemDisk {
         ensures file { IfOk result (λ writer. ForSome (told_by self.old)
             (λ _. ⟦<MemWriter as Writer>⟧.file writer ≡ Some new_file)) }
         ensures faults { IfOk result (λ writer. ⟦<MemWriter as Writer>⟧.faults writer ≡ 0) }
+        ensures steady { IfOk result (λ writer. GivesSteady self.old → IsSteady (writes_of writer)) }
         ensures counts { CountsRead self.old self.new (IsErr result) }
         ensures writers { OnErr result (KeepsWriters self.old self.new) }
         ensures other_writers { KeepsOtherWriters name self.old self.new }
@@ -407,6 +416,7 @@ impl Disk for MemDisk {
 
     fn reader(&self, alloc: Global) -> Result<MemReader, NoMemory>
         ensures faults { IfOk result (λ reader. ⟦<MemReader as Reader>⟧.faults reader ≡ 0) }
+        ensures steady { IfOk result (λ reader. GivesSteady self.now → IsSteady (reads_by reader)) }
 
         // Of its reads those fail that are listed for the disk's calls, counted anew.
         ensures plan { IfOk result (λ reader. reads_by reader ≡ new_plan (reads_of self.now).failing) }

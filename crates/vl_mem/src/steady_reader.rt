@@ -18,6 +18,8 @@ impl Reader for SteadyReader {
 
     ghost faults = { λ reader. 0 };
 
+    ghost steady = { λ _. Unit {0} };
+
     fn read(&mut self, held: &MemHeld, place: u64, out: &mut [u8]) -> Result<(), Failed> {
         read_bytes(held.bytes(), place as usize, out);
         Ok(())

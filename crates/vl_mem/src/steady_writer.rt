@@ -33,6 +33,8 @@ impl Writer for SteadyWriter {
 
     ghost faults = { λ writer. 0 };
 
+    ghost steady = { λ _. Unit {0} };
+
     fn append(&mut self, piece: &[u8]) -> Result<(), DiskFail> {
         self.writer.take_all(piece)?;
         Ok(())

@@ -65,6 +65,8 @@ impl Watched for StoppingDisk {
     ghost fails_cleanly = { true };
 
     ghost fails_past = { λ d. FailsPast d.disk };
+
+    ghost gives_steady = { λ _. Unit {0} };
 }
 
 impl Disk for StoppingDisk {

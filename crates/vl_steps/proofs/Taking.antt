@@ -159,6 +159,7 @@ module _ {D W : Type 0} (g : Ghosts D) (w : Writers W) {s : _} where
       nothing_else = λ t state earlier was. inl was;
       keeps = λ t state earlier was. was;
       as_planned = λ stop plan. plan;
+      steady = λ was. was;
     };
     manifests = λ n. refl;
     others = λ n apart. refl;

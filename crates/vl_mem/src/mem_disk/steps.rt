@@ -1,5 +1,5 @@
 // What the calls of a disk in memory do, where they don't fail.
-ghost use Rattle.std.specs.Prelude.{◌≡◌, ◌≤◌, Some, false, IsTrue, IsSome, IsOk, OnOk, IfOk, length, vec_capacity};
+ghost use Rattle.std.specs.Prelude.{◌≡◌, ◌≤◌, [], Some, false, IsTrue, IsSome, IsOk, OnOk, IfOk, length, vec_capacity};
 ghost use Rattle.std.specs.Option.{ForSome};
 ghost use Rattle.vl_disk.specs.DiskState.{created, appended, synced, cut_to, without, file_at};
 ghost use Rattle.vl_disk.specs.Disk.{Stands};
@@ -96,6 +96,7 @@ impl MemDisk {
         requires stands { ForSome (told_by self.old) (Stands name) }
         requires room { IsTrue (room_of self.old name).lend }
         ensures failing { result.items ≡ failing_at self.old name }
+        ensures none_left { failing_at self.new name ≡ [] }
         ensures goes { Goes self.old self.new (without name) }
         ensures writers { KeepsOtherWriters name self.old self.new }
         ensures spare { UsesLend name (room_of self.old) (room_of self.new) }

@@ -7,4 +7,4 @@ new-requires c = just_made_numbered c.args.name c.args.self.now (c.requires.just
 
 pub returns-clause-lends : goal.returns-clause-lends
 returns-clause-lends c = lends c.args.name c.args.self.now _ _ _ c.if-fails.false refl refl c.fails.ensures.follows
-    c.fails.ensures.cause c.give-failing.ensures.goes c.give-failing.ensures.spare
+    c.fails.ensures.cause c.give-failing.ensures.writers c.give-failing.ensures.none_left c.give-failing.ensures.goes c.give-failing.ensures.spare
