@@ -102,6 +102,90 @@ unseen() {
 }
 check 'why a file is not seen is told' unseen
 
+# A log that is removed beside a run takes no more commits, and what was answered before is not answered again.
+removed() {
+  local status=0
+  rm -f "$top/lines" "$top/first"
+  mkfifo "$top/lines"
+  "$program" replay "$top/removed" <"$top/lines" >"$top/first" 2>"$top/err" &
+  exec 3>"$top/lines"
+  printf "$commit" >&3
+  until grep -qs '^ok 1$' "$top/first"; do sleep 0.1; done
+  rm "$top/removed"/*.vlog
+  printf "$commit" >&3
+  exec 3>&-
+  wait "$!" || status="$?"
+  [ "$status" -eq 3 ] && ! grep -q '^ok 2$' "$top/first" && [ "$(tail -n 1 "$top/first")" = 'disk fault' ] &&
+    grep -q '0000000001.vlog: it was removed by somebody else$' "$top/err" && [ "$(wc -l <"$top/err")" -eq 1 ]
+}
+check 'a commit into a file that was removed is a fault' removed
+
+# Calls that a signal interrupts are made again.
+interrupted() {
+  local upkeep='rotate\nflush\nsweep\n'
+  printf "$commit$upkeep" | strace -f -o "$top/trace" -e trace=mkdir,getdents64,unlink -e inject=mkdir:error=EINTR:when=1 \
+    -e inject=getdents64:error=EINTR:when=1..2 -e inject=unlink:error=EINTR:when=1 \
+    "$program" replay "$top/interrupted" >"$top/out" 2>"$top/err" &&
+    [ "$(grep -c 'EINTR.*INJECTED' "$top/trace")" -eq 4 ] && shows "$top/interrupted" 1
+}
+check 'an interrupted call is made again' interrupted
+
+# Two runs that make the folder at once: each has it, or is told that the other has.
+at_once() {
+  local run status
+  for run in 1 2; do
+    status=0
+    printf "$commit" | strace -f -o "$top/trace$run" -e trace=mkdir -e inject=mkdir:delay_enter=300000 \
+      "$program" replay "$top/above/both" >"$top/first$run" 2>"$top/err$run" &
+  done
+  wait
+  for run in 1 2; do
+    grep -q '^ok 1$' "$top/first$run" || grep -q 'in use$' "$top/err$run" || return 1
+  done
+  grep -q EEXIST "$top"/trace? && grep -q '^ok 1$' "$top"/first?
+}
+check 'two runs make the folder at once' at_once
+
+# A file system that syncs no folders, where the folder's parent lies; the folder itself must be synced.
+parents() {
+  local status=0
+  printf "$commit" | strace -f -o "$top/trace" -e trace=fsync -e inject=fsync:error=EINVAL:when=1..2 \
+    "$program" replay "$top/parents" >"$top/out" 2>"$top/err" && shows "$top/parents" 1 || return 1
+  strace -f -o "$top/trace" -e trace=fsync -e inject=fsync:error=EINVAL:when=2 \
+    "$program" replay "$top/parents" </dev/null >"$top/out" 2>"$top/err" || status="$?"
+  [ "$status" -eq 3 ] && grep -q 'parents: Invalid argument' "$top/err"
+}
+check 'a parent that can not be synced is passed over' parents
+
+# A store of more files than a process may open.
+few_files() {
+  local n
+  for n in {1..40}; do printf 'begin t\nset t %02x 02\ncommit t\nrotate\nflush\n' "$n"; done |
+    "$program" replay "$top/many" >"$top/out"
+  [ "$(ls "$top/many" | wc -l)" -gt 40 ] || return 1
+  { printf 'view v\n' && printf 'get v %02x\n' {1..40} && printf 'begin t\nset t 01 03\ncommit t\nrotate\nflush\nplan j\ninstall j\nsweep\n'; } |
+    (ulimit -n 12 && "$program" replay "$top/many" >"$top/out" 2>"$top/err") &&
+    [ "$(grep -c '^value 02$' "$top/out")" -eq 40 ] && [ ! -s "$top/err" ]
+}
+check 'a store has more files than may be open' few_files
+
+# A read that fails is told as such, also where it is a reader's.
+untold_reads() {
+  local read status seen=0
+  printf "${commit}rotate\nflush\n" | "$program" replay "$top/unread" >"$top/out"
+  for read in {1..20}; do
+    status=0
+    printf 'view v\nget v 01\n' | strace -f -o "$top/trace" -P "$top/unread/0000000001.vtab" -e trace=pread64 \
+      -e "inject=pread64:error=EIO:when=$read" "$program" replay "$top/unread" >"$top/out" 2>"$top/err" || status="$?"
+    [ "$status" -ne 0 ] || break
+    [ "$status" -eq 3 ] && [ "$(cat "$top/err")" = "vlstore: $top/unread/0000000001.vtab: Input/output error (os error 5)" ] ||
+      return 1
+    seen="$((seen + 1))"
+  done
+  [ "$status" -eq 0 ] && [ "$seen" -gt 0 ]
+}
+check 'a read that fails is told' untold_reads
+
 # Whether the program ends with status $1 and one line that begins with $2, where its words are those behind.
 ends_by() {
   local status=0

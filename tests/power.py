@@ -5,8 +5,9 @@ usage: power.py PROGRAM FOLDER TRACE..
 
 The traces are those of runs over FOLDER, one after the other, as `strace -f -y -xx -s 9999999` writes them. After each call
 it makes the images that a loss of power there may leave: names and removals that aren't synced are there or not, and of the
-bytes behind a file's last sync none, some, all or others are. The program opens each image, and must show each commit
-whose answer was written before, and at most one more.
+bytes behind a file's last sync none, some, all or others are. What a sync that failed was to write counts as written to the
+system: no later sync writes it, unless it is written again. The program opens each image, and must show each commit whose
+answer was written before, and at most one more.
 """
 import hashlib
 import os
@@ -24,8 +25,26 @@ DESCRIPTOR = re.compile(r"^(\d+)<([^>]*)>")
 class File:
     def __init__(self):
         self.data = b""  # what a read gives
-        self.synced = b""  # what the last sync left
+        self.synced = b""  # what is on the disk for sure
+        self.dirty = []  # from where to where it was written since the last sync, also where that failed
         self.named = False  # its name is synced
+
+    def write(self, at, piece):
+        self.data = self.data[:at].ljust(at, b"\0") + piece + self.data[at + len(piece) :]
+        self.dirty.append((at, at + len(piece)))
+
+    def flushed(self):
+        """What a sync leaves."""
+        left = bytearray(self.synced[: len(self.data)].ljust(len(self.data), b"\0"))
+        for start, end in self.dirty:
+            end = min(end, len(self.data))
+            left[start:end] = self.data[start:end]
+        return bytes(left)
+
+    def sync(self, passed):
+        if passed:
+            self.synced = self.flushed()
+        self.dirty = []
 
 
 class Disk:
@@ -40,9 +59,9 @@ def unescaped(text):
 
 def torn(file):
     """What may be left of a file's bytes."""
-    old, new = file.synced, file.data
+    old, new = file.synced, file.flushed()
     if old == new:
-        return [new]
+        return [old, file.data]
     start = len(os.path.commonprefix([old, new]))
     tail = new[start:]
     kept = new[:start]
@@ -56,6 +75,7 @@ def torn(file):
         kept + bytes(len(tail)),
         kept + b"\xaa" * len(tail),
         kept + bytes(half) + tail[half:],
+        file.data,
     ]
 
 
@@ -64,14 +84,15 @@ def images(disk):
     unsynced = [name for name, file in disk.files.items() if file.data != file.synced]
     for standing in (True, False):
         for back in (True, False):
-            for choice in range(8):
+            for choice in range(9):
                 for tearing in (unsynced, unsynced[-1:]):
                     image = {}
                     if back:
                         image.update(disk.removed)
                     for name, file in disk.files.items():
                         if file.named or standing:
-                            image[name] = torn(file)[choice] if name in tearing else file.data
+                            left = torn(file) if name in tearing else [file.data]
+                            image[name] = left[min(choice, len(left) - 1)]
                     yield image
 
 
@@ -122,9 +143,12 @@ class Losses:
 
     def follow(self, line):
         match = CALL.match(line)
-        if not match or match[3].startswith("-"):
+        if not match:
             return
         call, given, result, target = match.groups()
+        failed = result.startswith("-")
+        if failed and call not in ("fdatasync", "fsync"):
+            return
         place = DESCRIPTOR.match(given)
         path = unescaped(place[2]).decode() if place and "\\x" in place[2] else place[2] if place else ""
         name = self.name_of(path) if path else None
@@ -137,16 +161,16 @@ class Losses:
                 self.lose(f"the making of {made}")
         elif call == "pwrite64" and name:
             piece = unescaped(TEXT.search(given)[1])[: int(result)]
-            at = int(given.rsplit(", ", 1)[1])
-            file = files[name]
-            file.data = file.data[:at] + piece + file.data[at + len(piece) :]
+            files[name].write(int(given.rsplit(", ", 1)[1]), piece)
             self.lose(f"a write to {name}")
         elif call == "ftruncate" and name:
             files[name].data = files[name].data[: int(given.rsplit(", ", 1)[1])]
             self.lose(f"a cut of {name}")
         elif call in ("fdatasync", "fsync") and name:
-            files[name].synced = files[name].data
+            files[name].sync(not failed)
             self.lose(f"a sync of {name}")
+        elif failed:
+            return
         elif call == "fsync" and path and os.path.realpath(path) == self.folder:
             for file in files.values():
                 file.named = True

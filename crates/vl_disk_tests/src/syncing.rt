@@ -92,18 +92,38 @@ fn a_folder_that_can_not_be_synced_is_a_fault(rt: HostRuntime) -> Result<(), Fai
     Ok(())
 }
 
+/// A path where nothing can be opened.
+const UNOPENED: &str = "/proc/self/missing";
+
 // The parent of the parent, the parent once the folder is made, and the parent of a folder that stands.
 fn refuses_parents(rt: &HostRuntime, top: &str) -> Result<bool, Fail> {
     fs::create_dir(rt, top)?;
     let path = inside(rt, top, "store")?;
-    let above = lists(rt, &path, &inside(rt, top, "..")?, UNSYNCED)?;
-    let made = lists(rt, &path, top, UNSYNCED)?;
-    let standing = lists(rt, &path, &inside(rt, top, "store/..")?, UNSYNCED)?;
+    let above = lists(rt, &path, &inside(rt, top, "..")?, UNOPENED)?;
+    let made = lists(rt, &path, top, UNOPENED)?;
+    let standing = lists(rt, &path, &inside(rt, top, "store/..")?, UNOPENED)?;
     Ok(!above && !made && !standing && lists(rt, &path, "", "")?)
 }
 
 #[test]
 fn a_parent_that_can_not_be_synced_is_a_fault(rt: HostRuntime) -> Result<(), Fail> {
     assert!(rt; over(&rt, refuses_parents)?);
+    Ok(())
+}
+
+// The same three, in a file system that syncs no folders.
+fn passes_over_parents(rt: &HostRuntime, top: &str) -> Result<bool, Fail> {
+    fs::create_dir(rt, top)?;
+    let path = inside(rt, top, "store")?;
+    let above = lists(rt, &path, &inside(rt, top, "..")?, UNSYNCED)?;
+    fs::remove_dir(rt, path.as_str())?;
+    let made = lists(rt, &path, top, UNSYNCED)?;
+    let standing = lists(rt, &path, &inside(rt, top, "store/..")?, UNSYNCED)?;
+    Ok(above && made && standing)
+}
+
+#[test]
+fn a_parent_whose_file_system_syncs_no_folders_is_passed_over(rt: HostRuntime) -> Result<(), Fail> {
+    assert!(rt; over(&rt, passes_over_parents)?);
     Ok(())
 }

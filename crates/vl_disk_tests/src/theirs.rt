@@ -130,3 +130,24 @@ fn a_folder_that_was_moved_is_a_fault(rt: HostRuntime) -> Result<(), Fail> {
     assert!(rt; over(&rt, misses_its_folder)?);
     Ok(())
 }
+
+// Whether a disk tells what it met at a folder that has a file's name, once it has met it.
+fn tells_of_a_folder(rt: &HostRuntime, path: &str) -> Result<bool, Fail> {
+    let below = inside(rt, path, "0000000001.vlog")?;
+    fs::create_dir_all(rt, below.as_str())?;
+    let mut disk = disk_over(rt, path)?;
+    let before = disk.last_fault().is_none();
+    let listed = disk.list(rt.alloc()).is_ok();
+    let Some(fault) = disk.last_fault() else {
+        return Ok(false);
+    };
+    let text = format!(in rt.alloc(); "{fault}")?;
+    let wanted = format!(in rt.alloc(); "{below}: it is no plain file")?;
+    Ok(before && !listed && fault.path() == below.as_str() && text == wanted)
+}
+
+#[test]
+fn what_failed_is_told(rt: HostRuntime) -> Result<(), Fail> {
+    assert!(rt; over(&rt, tells_of_a_folder)?);
+    Ok(())
+}

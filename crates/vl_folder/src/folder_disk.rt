@@ -1,20 +1,19 @@
 ghost use Rattle.std.specs.Prelude.{◌≡◌, ◌↔◌, IsErr, IfOk, None, Some, true, false};
 ghost use Rattle.vl_disk.specs.Faults.{HasCause, one_more};
 
-use crate::file_name::path_of;
+use crate::common::Fault;
 use crate::folder::Folder;
-use crate::folder_error::{FolderError, tell};
+use crate::folder_error::{FolderError, Trouble};
 use crate::folder_reader::FolderReader;
 use crate::held::FolderHeld;
 use crate::writer::FolderWriter;
 use std::alloc::Global;
 use std::fs::File;
-use std::io::Eprint;
 use std::rt::Files;
 use vl_disk::{Disk, DiskFail, Failed, Name, NoMemory, Watched};
 
-/// A folder of the file system as a disk. It tells no bytes, and opens nothing before its first call. What fails is told in
-/// one line on the standard error.
+/// A folder of the file system as a disk. It tells no bytes, and opens nothing before its first call. It prints nothing: what
+/// failed is asked for.
 #[derive(Drop)]
 pub struct FolderDisk<R: Files<File = File>> {
     rt: R,
@@ -22,9 +21,12 @@ pub struct FolderDisk<R: Files<File = File>> {
     folder: Folder<R>,
     calls: u64,
     faults: u64,
+    // what failed last, and what is told of it
+    fault: Option<Fault>,
+    told: Option<FolderError>,
 }
 
-impl<R: Files<File = File> + Eprint + Copy> FolderDisk<R> {
+impl<R: Files<File = File> + Copy> FolderDisk<R> {
     /// A disk over the folder of this path, which may be missing.
     pub fn new(rt: R, alloc: Global, path: String) -> Self
         ensures { ⟦<FolderDisk<R> as Watched>⟧.faults result ≡ 0 }
@@ -35,28 +37,35 @@ impl<R: Files<File = File> + Eprint + Copy> FolderDisk<R> {
             folder: Folder::new(rt, alloc, path),
             calls: 0,
             faults: 0,
+            fault: None,
+            told: None,
         }
     }
 
-    /// Counts a fault of the file of this name or, where there is none, of the folder, and tells it.
-    fn count(&mut self, name: Option<Name>, error: &FolderError)
+    /// What failed last, of the disk's own calls, of its readers and of its writers, if anything did.
+    pub fn last_fault(&mut self) -> Option<&FolderError> {
+        if let Some(noted) = self.folder.take_noted() {
+            self.fault = Some(noted);
+        }
+        let fault = self.fault?;
+        self.told = Some(FolderError::new(self.folder.path(fault.name), fault.trouble));
+        self.told.as_ref()
+    }
+
+    /// Counts a fault of the file of this name or, where there is none, of the folder.
+    fn count(&mut self, name: Option<Name>, trouble: Trouble)
         ensures cause { HasCause self.old.faults self.new.faults (Unit {0}) }
         ensures calls { self.new.calls ≡ self.old.calls }
         ensures folder { self.new.folder ≡ self.old.folder }
     {
         self.faults = self.faults.saturating_add(1);
-        let folder = self.folder.path();
-        match name {
-            Some(name) => match path_of(self.alloc, folder, name) {
-                Ok(path) => tell(&self.rt, path.as_str(), error),
-                Err(_) => tell(&self.rt, folder, error),
-            },
-            None => tell(&self.rt, folder, error),
-        }
+        self.fault = Some(Fault { name, trouble });
+        // What was noted before isn't the last.
+        let _ = self.folder.take_noted();
     }
 
     /// The answer of a call that changes nothing.
-    fn answer<T: Drop>(&mut self, name: Name, answer: Result<T, FolderError>) -> Result<T, Failed>
+    fn answer<T: Drop>(&mut self, name: Name, answer: Result<T, Trouble>) -> Result<T, Failed>
         ensures failed { IsErr result ↔ IsErr answer }
         ensures cause { HasCause self.old.faults self.new.faults (IsErr result) }
         ensures calls { self.new.calls ≡ self.old.calls }
@@ -64,15 +73,15 @@ impl<R: Files<File = File> + Eprint + Copy> FolderDisk<R> {
     {
         match answer {
             Ok(found) => Ok(found),
-            Err(error) => {
-                self.count(Some(name), &error);
+            Err(trouble) => {
+                self.count(Some(name), trouble);
                 Err(Failed)
             }
         }
     }
 
     /// The answer of a call that changes something.
-    fn answer_change(&mut self, name: Name, answer: Result<(), FolderError>) -> Result<(), Failed>
+    fn answer_change(&mut self, name: Name, answer: Result<(), Trouble>) -> Result<(), Failed>
         ensures failed { IsErr result ↔ IsErr answer }
         ensures cause { HasCause self.old.faults self.new.faults (IsErr result) }
         ensures calls { self.new.calls ≡ one_more self.old.calls }
@@ -105,12 +114,12 @@ impl<R: Files<File = File>> Watched for FolderDisk<R> {
     ghost gives_steady = { λ _. ⊥ };
 }
 
-impl<R: Files<File = File> + Eprint + Copy> Disk for FolderDisk<R> {
+impl<R: Files<File = File> + Copy> Disk for FolderDisk<R> {
     type Held = FolderHeld;
 
     type Reader = FolderReader<R>;
 
-    type Writer = FolderWriter<R>;
+    type Writer = FolderWriter;
 
     ghost use Rattle.std.specs.Prelude.{true, IsSomeAnd, OnOk};
     ghost use Rattle.vl_disk.specs.Calls.{Syncs};
@@ -129,17 +138,20 @@ impl<R: Files<File = File> + Eprint + Copy> Disk for FolderDisk<R> {
     fn list(&mut self, alloc: Global) -> Result<Vec<Name>, DiskFail> {
         let names = match self.folder.list(alloc) {
             Ok(names) => names,
-            Err(FolderError::NoMemory) => return Err(DiskFail::NoMemory),
-            Err(error) => {
-                self.count(None, &error);
+            Err(Trouble::NoMemory) => return Err(DiskFail::NoMemory),
+            Err(trouble) => {
+                self.count(None, trouble);
                 return Err(DiskFail::Failed);
             }
         };
-        if let Err((name, error)) = self.folder.look_at(&names) {
-            self.count(Some(name), &error);
-            return Err(DiskFail::Failed);
+        match self.folder.look_at(&names) {
+            Ok(()) => Ok(names),
+            Err((_, Trouble::NoMemory)) => Err(DiskFail::NoMemory),
+            Err((name, trouble)) => {
+                self.count(Some(name), trouble);
+                Err(DiskFail::Failed)
+            }
         }
-        Ok(names)
     }
 
     fn size(&mut self, name: Name) -> Result<u64, Failed> {
@@ -197,13 +209,13 @@ impl<R: Files<File = File> + Eprint + Copy> Disk for FolderDisk<R> {
         }
     }
 
-    fn lend(&mut self, name: Name) -> Result<FolderWriter<R>, Failed> {
+    fn lend(&mut self, name: Name) -> Result<FolderWriter, Failed> {
         let lent = self.folder.lend(name);
         let lent = self.answer(name, lent)?;
-        Ok(FolderWriter::new(self.rt, name, lent))
+        Ok(FolderWriter::new(name, lent))
     }
 
-    fn adopt(&mut self, writer: FolderWriter<R>) {
+    fn adopt(&mut self, writer: FolderWriter) {
         let (name, file) = writer.into_parts();
         self.folder.adopt(name, file);
     }

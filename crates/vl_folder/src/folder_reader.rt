@@ -1,10 +1,8 @@
 ghost use Rattle.std.specs.Prelude.{◌≡◌, ◌+◌, ◌≤◌};
 
-use crate::folder_error::tell;
 use crate::held::FolderHeld;
 use std::alloc::Global;
 use std::fs::File;
-use std::io::Eprint;
 use std::rt::Files;
 use vl_disk::{Failed, Reader};
 
@@ -16,7 +14,7 @@ pub struct FolderReader<R> {
     faults: u64,
 }
 
-impl<R: Files<File = File> + Eprint> FolderReader<R> {
+impl<R: Files<File = File>> FolderReader<R> {
     pub fn new(rt: R, alloc: Global) -> Self
         ensures { ⟦<FolderReader<R> as Reader>⟧.faults result ≡ 0 }
     {
@@ -28,7 +26,7 @@ impl<R: Files<File = File> + Eprint> FolderReader<R> {
     }
 }
 
-impl<R: Files<File = File> + Eprint> Reader for FolderReader<R> {
+impl<R: Files<File = File>> Reader for FolderReader<R> {
     type Held = FolderHeld;
 
     ghost faults = { λ reader. reader.faults };
@@ -36,9 +34,9 @@ impl<R: Files<File = File> + Eprint> Reader for FolderReader<R> {
     ghost steady = { λ _. ⊥ };
 
     fn read(&mut self, held: &FolderHeld, place: u64, out: &mut [u8]) -> Result<(), Failed> {
-        if let Err(error) = held.read(&self.rt, self.alloc, place, out) {
+        if let Err(trouble) = held.read(&self.rt, self.alloc, place, out) {
             self.faults = self.faults.saturating_add(1);
-            tell(&self.rt, held.path(), &error);
+            held.note(trouble);
             return Err(Failed);
         }
         Ok(())

@@ -1,11 +1,11 @@
 // A file that a folder shares.
 ghost use Rattle.std.specs.Prelude.{◌≡◌, ◌↔◌, ℕ, None, IsTrue};
 
-use crate::folder_error::FolderError;
+use crate::common::Common;
+use crate::folder_error::Trouble;
 use crate::identity::Identity;
 use crate::named::Named;
 use crate::opening::open_file;
-use crate::pool::Pool;
 use crate::shared_file::SharedFile;
 use std::alloc::{AllocError, Global};
 use std::fs::File;
@@ -28,7 +28,7 @@ pub struct FolderHeld {
 pub struct Shared {
     pub named: Arc<Named, Global>,
     pub identity: Identity,
-    pub pool: Arc<Pool, Global>,
+    pub common: Arc<Common, Global>,
 }
 
 impl FolderHeld {
@@ -38,8 +38,9 @@ impl FolderHeld {
         FolderHeld { name, len, shared }
     }
 
-    pub fn path(&self) -> &str {
-        self.shared.named.path.as_str()
+    /// Notes what a reader of it met.
+    pub fn note(&self, trouble: Trouble) {
+        self.shared.common.note(self.name, trouble);
     }
 
     /// Reads from a place on, as many bytes as fill `out`. Several readers may do so at a time.
@@ -49,7 +50,7 @@ impl FolderHeld {
         alloc: Global,
         place: u64,
         out: &mut [u8],
-    ) -> Result<(), FolderError> {
+    ) -> Result<(), Trouble> {
         let shared = &self.shared;
         if shared.read_removed(place, out)? || shared.read_open(place, out)? {
             return Ok(());
@@ -79,7 +80,7 @@ impl Shared {
 
     /// Reads the file if the pool has it open, and says whether it has.
     fn read_open(&self, place: u64, out: &mut [u8]) -> io::Result<bool> {
-        let Some(found) = self.pool.find(self.identity) else {
+        let Some(found) = self.common.pool.find(self.identity) else {
             return Ok(false);
         };
         let Some(file) = found.get() else {
@@ -96,7 +97,7 @@ impl Shared {
         file: File,
         place: u64,
         out: &mut [u8],
-    ) -> Result<(), FolderError> {
+    ) -> Result<(), Trouble> {
         file.read_exact_at(out, place)?;
         if let Ok(room) = SharedFile::room(alloc) {
             room.fill(file);
@@ -105,20 +106,28 @@ impl Shared {
         Ok(())
     }
 
-    /// Opens the file by its name.
-    fn open<R: Files<File = File>>(&self, rt: &R) -> Result<File, FolderError> {
-        let file = open_file(rt, self.named.path.as_str())?;
-        if Identity::of(&file.metadata()?) != self.identity {
-            return Err(FolderError::Replaced);
+    /// Opens the file by its name. Where the process may open no more files, those that needn't stay open are closed.
+    fn open<R: Files<File = File>>(&self, rt: &R) -> Result<File, Trouble> {
+        let path = self.named.path.as_str();
+        let opened = match open_file(rt, path) {
+            Err(trouble) if trouble.is_too_many() => {
+                self.common.pool.close_all();
+                open_file(rt, path)
+            }
+            opened => opened,
+        };
+        let (file, identity) = opened?;
+        if identity != self.identity {
+            return Err(Trouble::Replaced);
         }
         Ok(file)
     }
 
     /// Has the pool keep the file open, unless it was removed.
     pub fn keep_open(&self, file: SharedFile) {
-        self.pool.keep(self.identity, file, &self.named);
+        self.common.pool.keep(self.identity, file, &self.named);
         if self.named.is_gone() {
-            self.pool.close_removed();
+            self.common.pool.close_removed();
         }
     }
 }
@@ -133,7 +142,7 @@ impl Clone for FolderHeld {
             shared: Shared {
                 named: self.shared.named.clone()?,
                 identity: self.shared.identity,
-                pool: self.shared.pool.clone()?,
+                common: self.shared.common.clone()?,
             },
         })
     }

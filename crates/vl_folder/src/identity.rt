@@ -3,7 +3,7 @@ use std::fs::Metadata;
 use std::os::unix::fs::MetadataExt;
 
 /// A file of the system, whatever its name. It stays the file's as long as the file is open or has a name.
-#[derive(Clone, Copy, PartialEq, Eq)]
+#[derive(Clone, Copy, PartialEq, Eq, Hash)]
 pub struct Identity {
     device: u64,
     inode: u64,

@@ -1,4 +1,5 @@
 // A folder that is made where it is missing, durably.
+use crate::again::create_dir;
 use std::alloc::Global;
 use std::fs::File;
 use std::io;
@@ -32,8 +33,13 @@ fn make_one<R: Files<File = File>>(rt: &R, alloc: Global, path: &str) -> io::Res
     }
     let parent = parent_of(path);
     sync_name(rt, alloc, parent)?;
-    rt.create_dir(path)?;
-    File::open(rt, parent)?.sync_all()
+    match create_dir(rt, path) {
+        Ok(()) => {}
+        // Another process made it meanwhile. Which of the two has it is told when it is locked.
+        Err(error) if error.kind() == ErrorKind::AlreadyExists && is_folder(rt, path) => {}
+        Err(error) => return Err(error),
+    }
+    sync_parent(&File::open(rt, parent)?)
 }
 
 /// Makes the name of a folder that stands durable. Where the folder that it lies in may not be read, that is left to who
@@ -41,9 +47,18 @@ fn make_one<R: Files<File = File>>(rt: &R, alloc: Global, path: &str) -> io::Res
 fn sync_name<R: Files<File = File>>(rt: &R, alloc: Global, path: &str) -> io::Result<()> {
     let parent = format!(in alloc; "{path}/..")?;
     match File::open(rt, parent.as_str()) {
-        Ok(parent) => parent.sync_all(),
+        Ok(parent) => sync_parent(&parent),
         Err(error) if error.kind() == ErrorKind::PermissionDenied => Ok(()),
         Err(error) => Err(error),
+    }
+}
+
+/// Makes the names in a folder durable that isn't the store's. Of a file system that syncs no folders nothing more can be
+/// asked.
+fn sync_parent(parent: &File) -> io::Result<()> {
+    match parent.sync_all() {
+        Err(error) if error.kind() == ErrorKind::InvalidInput => Ok(()),
+        synced => synced,
     }
 }
 

@@ -1,5 +1,5 @@
 use crate::file_name::path_of;
-use crate::folder_error::FolderError;
+use crate::folder_error::Trouble;
 use crate::identity::Identity;
 use crate::shared_file::SharedFile;
 use std::alloc::{AllocError, Global};
@@ -54,10 +54,10 @@ impl Named {
     }
 
     /// Keeps the file open that is about to be removed. Only its disk does so.
-    pub fn keep_removed(&self, identity: Identity, file: SharedFile) -> Result<(), FolderError> {
+    pub fn keep_removed(&self, identity: Identity, file: SharedFile) -> Result<(), Trouble> {
         let kept = self.removed.try_set(Removed { identity, file });
         if kept.is_err() && self.removed(identity).is_none() {
-            return Err(FolderError::Replaced);
+            return Err(Trouble::Replaced);
         }
         Ok(())
     }

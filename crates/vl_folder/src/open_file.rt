@@ -1,11 +1,14 @@
 // An open file that is written, by the disk or by a writer.
-use crate::folder_error::FolderError;
+use crate::folder_error::Trouble;
 use crate::identity::Identity;
 use crate::shared_file::SharedFile;
 use std::fs::File;
 use std::io;
 use std::io::ErrorKind;
-use std::os::unix::fs::FileExt;
+use std::os::unix::fs::{FileExt, MetadataExt};
+
+/// The bytes that are written again at a time.
+const PIECE: usize = 65536;
 
 /// An open file.
 #[derive(Drop)]
@@ -22,23 +25,22 @@ pub struct OpenFile {
 
 impl OpenFile {
     /// A file that was opened, in the room that was made for it.
-    pub fn new(room: SharedFile, file: File) -> io::Result<Self> {
-        let identity = Identity::of(&file.metadata()?);
+    pub fn new(room: SharedFile, file: File, identity: Identity) -> Self {
         room.fill(file);
-        Ok(OpenFile {
+        OpenFile {
             identity,
             file: room,
             end: None,
             lost: false,
             idle: false,
-        })
+        }
     }
 
     /// The file, where it isn't lost.
-    fn file(&self) -> Result<&File, FolderError> {
+    fn file(&self) -> Result<&File, Trouble> {
         match self.file.get() {
             Some(file) if !self.lost => Ok(file),
-            _ => Err(FolderError::Lost),
+            _ => Err(Trouble::Lost),
         }
     }
 
@@ -48,7 +50,7 @@ impl OpenFile {
         self.idle = false;
     }
 
-    pub fn size(&mut self) -> Result<u64, FolderError> {
+    pub fn size(&mut self) -> Result<u64, Trouble> {
         self.file()?;
         if let Some(end) = self.end {
             return Ok(end);
@@ -58,12 +60,12 @@ impl OpenFile {
         Ok(end)
     }
 
-    pub fn read(&self, place: u64, out: &mut [u8]) -> Result<(), FolderError> {
+    pub fn read(&self, place: u64, out: &mut [u8]) -> Result<(), Trouble> {
         self.file()?.read_exact_at(out, place)?;
         Ok(())
     }
 
-    pub fn append(&mut self, piece: &[u8]) -> Result<(), FolderError> {
+    pub fn append(&mut self, piece: &[u8]) -> Result<(), Trouble> {
         let end = self.size()?;
         let written = self.file()?.write_all_at(piece, end);
         self.changed(match written {
@@ -74,9 +76,9 @@ impl OpenFile {
         Ok(())
     }
 
-    pub fn cut(&mut self, len: u64) -> Result<(), FolderError> {
+    pub fn cut(&mut self, len: u64) -> Result<(), Trouble> {
         if len > self.size()? {
-            return Err(FolderError::from(io::Error::from(ErrorKind::InvalidInput)));
+            return Err(Trouble::from(io::Error::from(ErrorKind::InvalidInput)));
         }
         let cut = self.file()?.set_len(len);
         self.changed(match cut {
@@ -88,11 +90,49 @@ impl OpenFile {
     }
 
     /// Makes the file's bytes durable. Where that fails the file is lost.
-    pub fn sync(&mut self) -> Result<(), FolderError> {
-        let synced = self.file()?.sync_data();
+    pub fn sync(&mut self) -> Result<(), Trouble> {
+        let synced = self.sync_named();
         self.lost = synced.is_err();
         self.idle = synced.is_ok();
-        synced?;
+        synced
+    }
+
+    /// Makes the file's bytes durable. It is an error where the file has no name any more, since no later opening finds it.
+    fn sync_named(&self) -> Result<(), Trouble> {
+        let file = self.file()?;
+        file.sync_data()?;
+        if file.metadata()?.nlink() == 0 {
+            return Err(Trouble::Removed);
+        }
+        Ok(())
+    }
+
+    /// Makes the bytes of a file durable that was found. Its last bytes, at most so many, are written again before: where an
+    /// earlier sync of them failed, the system may take them for written, and then a sync tells nothing of them.
+    pub fn sync_found(&mut self, most: u64) -> Result<(), Trouble> {
+        let written = self.write_again(most);
+        if written.is_err() {
+            self.lose();
+        }
+        written?;
+        self.sync()
+    }
+
+    fn write_again(&mut self, most: u64) -> Result<(), Trouble> {
+        let end = self.size()?;
+        let file = self.file()?;
+        let mut piece = [0u8; PIECE];
+        let mut left = end.min(most);
+        for _ in 0..u64::MAX {
+            if left == 0 {
+                break;
+            }
+            let count = left.min(PIECE as u64);
+            let part = &mut piece[..count as usize];
+            file.read_exact_at(part, end - left)?;
+            file.write_all_at(part, end - left)?;
+            left -= count;
+        }
         Ok(())
     }
 
@@ -111,7 +151,7 @@ impl OpenFile {
     }
 
     /// The file, shared.
-    pub fn share(&self) -> Result<SharedFile, FolderError> {
+    pub fn share(&self) -> Result<SharedFile, Trouble> {
         Ok(self.file.again()?)
     }
 }

@@ -1,7 +1,7 @@
 // A folder that is open, for the disk or for a writer.
 ghost use Rattle.std.specs.Prelude.{◌≡◌, true, false, OnOk, IfOk};
 
-use crate::folder_error::FolderError;
+use crate::folder_error::Trouble;
 use crate::identity::Identity;
 use std::alloc::Global;
 use std::fs::{File, TryLockError};
@@ -22,11 +22,7 @@ pub struct OpenFolder {
 
 impl OpenFolder {
     /// Opens a folder. What is durable of it isn't known.
-    pub fn open<R: Files<File = File>>(
-        rt: &R,
-        alloc: Global,
-        path: &str,
-    ) -> Result<Self, FolderError>
+    pub fn open<R: Files<File = File>>(rt: &R, alloc: Global, path: &str) -> Result<Self, Trouble>
         ensures { IfOk result (λ folder. folder.durable ≡ false) }
     {
         let lost = Arc::new(alloc, AtomicBool::new(false))?;
@@ -40,7 +36,7 @@ impl OpenFolder {
     }
 
     /// Opens the same folder anew, since the system tells each open folder, and not each that shares it, of a failed sync.
-    pub fn again<R: Files<File = File>>(&self, rt: &R, path: &str) -> Result<Self, FolderError>
+    pub fn again<R: Files<File = File>>(&self, rt: &R, path: &str) -> Result<Self, Trouble>
         ensures { IfOk result (λ folder. folder.durable ≡ false) }
     {
         self.refuse_lost()?;
@@ -48,7 +44,7 @@ impl OpenFolder {
         let handle = File::open(rt, path)?;
         let identity = Identity::of(&handle.metadata()?);
         if identity != self.identity {
-            return Err(FolderError::Moved);
+            return Err(Trouble::Moved);
         }
         Ok(OpenFolder {
             handle,
@@ -59,11 +55,11 @@ impl OpenFolder {
     }
 
     /// Locks the folder, so that another disk over it is refused.
-    pub fn lock(&self) -> Result<(), FolderError> {
+    pub fn lock(&self) -> Result<(), Trouble> {
         match self.handle.try_lock() {
             Ok(()) => Ok(()),
-            Err(TryLockError::WouldBlock) => Err(FolderError::InUse),
-            Err(TryLockError::Error(error)) => Err(FolderError::from(error)),
+            Err(TryLockError::WouldBlock) => Err(Trouble::InUse),
+            Err(TryLockError::Error(error)) => Err(Trouble::from(error)),
         }
     }
 
@@ -79,13 +75,13 @@ impl OpenFolder {
     }
 
     /// Makes the names that stand in it durable, where they aren't. Where that fails they are lost.
-    pub fn sync(&mut self) -> Result<(), FolderError>
+    pub fn sync(&mut self) -> Result<(), Trouble>
         ensures { OnOk result (self.new.durable ≡ true) }
     {
         if !self.durable {
             if let Err(error) = self.handle.sync_all() {
                 self.lost.store(true, Ordering::SeqCst);
-                return Err(FolderError::from(error));
+                return Err(Trouble::from(error));
             }
             self.durable = true;
         }
@@ -93,9 +89,9 @@ impl OpenFolder {
         self.refuse_lost()
     }
 
-    fn refuse_lost(&self) -> Result<(), FolderError> {
+    fn refuse_lost(&self) -> Result<(), Trouble> {
         if self.lost.load(Ordering::SeqCst) {
-            return Err(FolderError::Lost);
+            return Err(Trouble::Lost);
         }
         Ok(())
     }

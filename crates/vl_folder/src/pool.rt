@@ -2,7 +2,9 @@
 use crate::identity::Identity;
 use crate::named::Named;
 use crate::shared_file::SharedFile;
-use std::alloc::Global;
+use lru::LruCache;
+use std::alloc::{AllocError, Global};
+use std::num::NonZeroUsize;
 use std::sync::atomic::{AtomicBool, Ordering};
 use std::sync::{Arc, Mutex};
 
@@ -11,35 +13,34 @@ const MOST_OPEN: usize = 128;
 
 #[derive(Drop)]
 struct Open {
-    identity: Identity,
     file: SharedFile,
     // it was removed: who holds it still has it open, and the pool needn't
     gone: Arc<AtomicBool, Global>,
 }
 
-/// Open files, from the one that was read least lately to the one that was read last. It is only a help: a call that
-/// others are in the way of is done without it.
+/// Open files, of which the one that was read least lately goes first. It is only a help: a call that others are in the way
+/// of is done without it.
 #[derive(Drop)]
 pub struct Pool {
-    open: Mutex<Vec<Open>>,
+    open: Mutex<LruCache<Identity, Open>>,
 }
 
 impl Pool {
-    pub fn new(alloc: Global) -> Self {
-        Pool {
-            open: Mutex::new(Vec::new(alloc)),
-        }
+    pub fn new(alloc: Global) -> Result<Self, AllocError> {
+        let Some(most) = NonZeroUsize::new(MOST_OPEN) else {
+            unreachable!();
+        };
+        Ok(Pool {
+            open: Mutex::new(LruCache::sparse(alloc, most)?),
+        })
     }
 
     /// The file, if it is open and nobody else uses the pool.
     pub fn find(&self, identity: Identity) -> Option<SharedFile> {
         let mut guard = self.open.try_lock()?;
         let open = &mut *guard;
-        let at = open.iter().position(|one| one.identity == identity)?;
-        let found = open.remove(at);
-        let file = found.file.again().ok();
-        let _ = open.push(found);
-        file
+        open.promote(&identity);
+        open.peek(&identity)?.file.again().ok()
     }
 
     /// Keeps a file open, where there is memory for it and nobody else uses the pool.
@@ -49,29 +50,41 @@ impl Pool {
         };
         if let Some(mut guard) = self.open.try_lock() {
             let open = &mut *guard;
-            open.retain(|one| one.is_wanted() && one.identity != identity);
-            if open.len() >= MOST_OPEN {
-                open.remove(0);
-            }
-            let _ = open.push(Open {
-                identity,
-                file,
-                gone,
-            });
+            close_gone(open);
+            drop(open.put(identity, Open { file, gone }));
         }
     }
 
     /// Closes the files that were removed. Where others are in the way, the next call that keeps a file open does so.
     pub fn close_removed(&self) {
         if let Some(mut guard) = self.open.try_lock() {
+            close_gone(&mut *guard);
+        }
+    }
+
+    /// Closes all of them, where nobody else uses the pool.
+    pub fn close_all(&self) {
+        if let Some(mut guard) = self.open.try_lock() {
             let open = &mut *guard;
-            open.retain(|one| one.is_wanted());
+            open.clear();
         }
     }
 }
 
-impl Open {
-    fn is_wanted(&self) -> bool {
-        !self.gone.load(Ordering::SeqCst)
+fn close_gone(open: &mut LruCache<Identity, Open>) {
+    for _ in 0..MOST_OPEN {
+        let Some(identity) = first_gone(open) else {
+            return;
+        };
+        drop(open.pop(&identity));
     }
+}
+
+fn first_gone(open: &LruCache<Identity, Open>) -> Option<Identity> {
+    for (identity, one) in open.iter() {
+        if one.gone.load(Ordering::SeqCst) {
+            return Some(*identity);
+        }
+    }
+    None
 }

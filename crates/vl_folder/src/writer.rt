@@ -1,27 +1,26 @@
 ghost use Rattle.std.specs.Prelude.{◌≡◌, None};
 
-use crate::folder_error::tell;
+use crate::folder_error::Trouble;
 use crate::lent::Lent;
 use crate::open_file::OpenFile;
-use std::io::Eprint;
 use vl_disk::{DiskFail, Failed, Name, Writer};
 
 /// What writes one file of a folder, over a descriptor of its own. It tells no bytes.
 #[derive(Drop)]
-pub struct FolderWriter<R> {
-    rt: R,
+pub struct FolderWriter {
     name: Name,
     lent: Lent,
     faults: u64,
 }
 
-impl<R: Eprint + Drop> FolderWriter<R> {
-    pub fn new(rt: R, name: Name, lent: Lent) -> Self
-        ensures faults { ⟦<FolderWriter<R> as Writer>⟧.faults result ≡ 0 }
-        ensures name { ⟦<FolderWriter<R> as Writer>⟧.named result ≡ name }
+impl FolderWriter {
+    ghost use Rattle.vl_disk.specs.Faults.{HasCause};
+
+    pub fn new(name: Name, lent: Lent) -> Self
+        ensures faults { ⟦<FolderWriter as Writer>⟧.faults result ≡ 0 }
+        ensures name { ⟦<FolderWriter as Writer>⟧.named result ≡ name }
     {
         FolderWriter {
-            rt,
             name,
             lent,
             faults: 0,
@@ -33,9 +32,17 @@ impl<R: Eprint + Drop> FolderWriter<R> {
         let FolderWriter { name, lent, .. } = self;
         (name, lent.file)
     }
+
+    fn count(&mut self, trouble: Trouble)
+        ensures cause { HasCause self.old.faults self.new.faults (Unit {0}) }
+        ensures name { self.new.name ≡ self.old.name }
+    {
+        self.faults = self.faults.saturating_add(1);
+        self.lent.common.note(self.name, trouble);
+    }
 }
 
-impl<R: Eprint + Drop> Writer for FolderWriter<R> {
+impl Writer for FolderWriter {
     ghost use Rattle.std.specs.Prelude.{true, IsErr, OnOk};
     ghost use Rattle.vl_disk.specs.Faults.{HasCause};
 
@@ -48,9 +55,8 @@ impl<R: Eprint + Drop> Writer for FolderWriter<R> {
     ghost steady = { λ _. ⊥ };
 
     fn append(&mut self, piece: &[u8]) -> Result<(), DiskFail> {
-        if let Err(error) = self.lent.file.append(piece) {
-            self.faults = self.faults.saturating_add(1);
-            tell(&self.rt, self.lent.path(), &error);
+        if let Err(trouble) = self.lent.file.append(piece) {
+            self.count(trouble);
             return Err(DiskFail::Failed);
         }
         Ok(())
@@ -63,9 +69,8 @@ impl<R: Eprint + Drop> Writer for FolderWriter<R> {
         // The names of the file's folder are durable too, and so its own.
         ensures folder { OnOk result (self.new.lent.folder.durable ≡ true) }
     {
-        if let Err(error) = self.lent.sync() {
-            self.faults = self.faults.saturating_add(1);
-            tell(&self.rt, self.lent.path(), &error);
+        if let Err(trouble) = self.lent.sync() {
+            self.count(trouble);
             return Err(Failed);
         }
         Ok(())

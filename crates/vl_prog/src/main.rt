@@ -17,7 +17,7 @@ fn main(rt: HostRuntime) -> ExitCode {
     let mut source = StdSource::new(rt.reader());
     let mut sink = StdSink::new(io::writer(&rt));
     let words = process_words(&rt);
-    let Served { exit, disk: _ } = serve::<SureStore, HostRuntime, _, _, _, _>(
+    let Served { exit, disk } = serve::<SureStore, HostRuntime, _, _, _, _>(
         &rt,
         rt.alloc(),
         words,
@@ -25,5 +25,15 @@ fn main(rt: HostRuntime) -> ExitCode {
         &mut sink,
         |folder| FolderDisk::new(&rt, rt.alloc(), folder),
     );
+    if let Some(disk) = disk {
+        tell_fault(&rt, disk);
+    }
     exit
+}
+
+/// Tells in one line on the standard error what failed last of the folder, if anything did.
+fn tell_fault(rt: &HostRuntime, mut disk: FolderDisk<&HostRuntime>) {
+    if let Some(fault) = disk.last_fault() {
+        let _ = eprintln!(rt; "vlstore: {fault}");
+    }
 }
