@@ -50,7 +50,7 @@ pub use vl_engine::{
     View,
 };
 pub use vl_engine_model::SegmentStat;
-pub use vl_folder::FolderDisk;
+pub use vl_folder::{FolderDisk, FolderError};
 pub use vl_model::{Bytes, Counter, Key, MAX_KEY_BYTES, MAX_ROOM, MAX_VALUE_BYTES, Value, Way};
 pub use vl_table::BlockReader;
 pub use vl_version::Base;
