@@ -286,7 +286,8 @@ shown_again h m shown =
       sealed = shown.sealed;
       led = shown.led;
       placed = shown.placed;
-      entries = entries_show_reopened shown.opening.state.keep shown.opening.state.since (stored_among shown.sealed)
+      entries = entries_show_reopened shown.opening.state.keep shown.opening.state.since shown.opening.state.gone
+          (stored_among shown.sealed)
           (logs_entries shown.opening.logs ++ entries_among shown.levels) h m shown.entries;
       some = shown.some;
       since = shown.since;
