@@ -14,7 +14,7 @@ use Rattle.vl_disk.specs.declared.name.Name.{Name}
 use Rattle.vl_disk.specs.declared.watched.Watched.{Ghosts}
 use Rattle.vl_disk.specs.declared.writer.Writer.{Ghosts as Writers}
 use Rattle.vl_space.specs.Collecting.{AreSealed}
-use Rattle.vl_engine_laws.specs.Lent.{IsLent}
+use Rattle.vl_engine_laws.specs.Lent.{IsLent, lent_in}
 use Rattle.vl_engine_laws.specs.declared.open.OpenMerge.{OpenMerge}
 use Rattle.vl_space.specs.declared.kept.Removing.{Removing}
 use Rattle.vl_engine_model.specs.Jobs.{lent_numbers}
