@@ -23,13 +23,11 @@ use Rattle.vl_model.specs.Cursors.{HasRisen, IsCounted}
 use Rattle.vl_model.specs.declared.entry.Entry.{Entry}
 use Rattle.vl_seglog.specs.Answers.{Failed as LogFailed}
 use Rattle.vl_seglog.specs.Stored.{stored_at}
-use Rattle.vl_disk.specs.declared.read_fault.ReadFault.TheVariants as log
 use Rattle.vl_seglog.specs.declared.sealed.SealedLog.{SealedLog}
 use Rattle.vl_table.specs.CursorParts.{MayFailOn, is_disk_fault}
 use Rattle.vl_table.specs.OfTables.{AreOf}
 use Rattle.vl_table.specs.Tables.{IsOf, number_of, shape_of}
 use Rattle.vl_table.specs.declared.block_reader.BlockReader.{BlockReader}
-use Rattle.vl_disk.specs.declared.read_fault.ReadFault.TheVariants as table
 use Rattle.vl_table.specs.declared.table.Table.{Table}
 use Rattle.vl_table.specs.laws.TrueBlocks.{no_bad_block}
 use Rattle.vl_version.specs.Bases.{Fits}
@@ -91,7 +89,7 @@ module _ {H : Type 0} (bytes : H → Option (List ℕ)) (ts : List (Table H)) wh
 
   -- of true tables none is damaged
   none_bad : (tabled : List (List Entry)) → AreOf bytes ts tabled → (name : FileName) (place : ℕ)
-      → MayFailOn bytes ts (table.Damaged name place) → ⊥
+      → MayFailOn bytes ts (faults.Damaged name place) → ⊥
   none_bad tabled are name place (i, t, there, named, bad) =
       let (es, of) = All-contains (λ (u : Table H). (es : List Entry) × IsOf bytes u es) ts t
       (All-from_recursion (λ (u : Table H). (es : List Entry) × IsOf bytes u es) ts (each_is tabled ts are)) (here ts i t there) in
@@ -127,9 +125,9 @@ module _ {H R : Type 0} (bytes : H → Option (List ℕ)) (pass : ThePass (Base 
     where
       of : (told : ReadFault) → fault ≡ told → MayFailOn bytes (tables_in pass.base.version) told
           → IsCounted (is_disk_fault told) counts.sources_before counts.sources_after → IsMemory fault
-      of table.NoMemory is had counted = is
-      of (table.Disk name) is had counted = absurd (none_risen counts.sources_before counts.sources_after sources_were sources_are counted)
-      of (table.Damaged name place) is had counted =
+      of faults.NoMemory is had counted = is
+      of (faults.Disk name) is had counted = absurd (none_risen counts.sources_before counts.sources_after sources_were sources_are counted)
+      of (faults.Damaged name place) is had counted =
           absurd (none_bad bytes (tables_in pass.base.version) goes.base.had.tabled goes.base.had.tables name place had)
 
   of_the_log : (fault : ReadFault) → IsOfLog pass.log.number bad counts fault → IsMemory fault
@@ -137,9 +135,9 @@ module _ {H R : Type 0} (bytes : H → Option (List ℕ)) (pass : ThePass (Base 
     where
       of : (told : ReadFault) → fault ≡ told → found.IsThere bad told
           → HasCause counts.files_before counts.files_after (LogFailed (found.failing told)) → IsMemory fault
-      of log.NoMemory is there cause = is
-      of (log.Disk name) is there cause = absurd (none_rose counts.files_before counts.files_after files_were files_are (cause.rose tt))
-      of (log.Damaged name place) is there cause =
+      of faults.NoMemory is there cause = is
+      of (faults.Disk name) is there cause = absurd (none_rose counts.files_before counts.files_after files_were files_are (cause.rose tt))
+      of (faults.Damaged name place) is there cause =
           absurd (whole_not_torn bytes pass.log pass.at.place place goes.told goes.tells whole there)
 
   pub only_memory : (fault : ReadFault)

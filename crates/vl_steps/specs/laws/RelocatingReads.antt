@@ -21,7 +21,6 @@ use Rattle.vl_seglog.specs.declared.sealed.SealedLog.{SealedLog}
 use Rattle.vl_table.specs.CursorParts.{MayFailOn, is_disk_fault}
 use Rattle.vl_table.specs.OfTables.{AreOf}
 use Rattle.vl_table.specs.Tables.{IsOf, number_of, shape_of}
-use Rattle.vl_disk.specs.declared.read_fault.ReadFault.TheVariants as table
 use Rattle.vl_table.specs.declared.table.Table.{Table}
 use Rattle.vl_table.specs.laws.TrueBlocks.{no_bad_block}
 use Rattle.vl_version.specs.Bases.{Fits}
@@ -35,11 +34,11 @@ here xs i x at = subst (Contains xs) (get_or_from_slice_get xs i x x at) (Contai
 module _ {H : Type 0} (bytes : H → Option (List ℕ)) (ts : List (Table H)) where
   -- a disk's fault names a table,
   named_so : (name : Name) (told : ReadFault) → faults.Disk name ≡ told → MayFailOn bytes ts told → IsTableAmong ts name
-  named_so name table.NoMemory is may = absurd cc
-  named_so name (table.Disk n) is (i, t, at, named) =
+  named_so name faults.NoMemory is may = absurd cc
+  named_so name (faults.Disk n) is (i, t, at, named) =
       let same : n ≡ name = cc in
       record { table = t; among = here ts i t at; is = sym same ∙ named }
-  named_so name (table.Damaged n place) is may = absurd cc
+  named_so name (faults.Damaged n place) is may = absurd cc
 
   each_is : (tabled : List (List Entry)) (held : List (Table H)) → AreOf bytes held tabled
       → AllByRecursion (λ (t : Table H). (es : List Entry) × IsOf bytes t es) held
@@ -51,9 +50,9 @@ module _ {H : Type 0} (bytes : H → Option (List ℕ)) (ts : List (Table H)) wh
   -- and none is damaged where they are true.
   sound_so : (tabled : List (List Entry)) → AreOf bytes ts tabled → (name : Name) (place : ℕ) (told : ReadFault)
       → faults.Damaged name place ≡ told → MayFailOn bytes ts told → ⊥
-  sound_so tabled are name place table.NoMemory is may = absurd cc
-  sound_so tabled are name place (table.Disk n) is may = absurd cc
-  sound_so tabled are name place (table.Damaged n at) is (i, t, there, named, bad) =
+  sound_so tabled are name place faults.NoMemory is may = absurd cc
+  sound_so tabled are name place (faults.Disk n) is may = absurd cc
+  sound_so tabled are name place (faults.Damaged n at) is (i, t, there, named, bad) =
       let (es, of) = All-contains (λ (u : Table H). (es : List Entry) × IsOf bytes u es) ts t
       (All-from_recursion (λ (u : Table H). (es : List Entry) × IsOf bytes u es) ts (each_is tabled ts are)) (here ts i t there) in
       no_bad_block bytes t es at of (bad (table_bytes (shape_of t).format (number_of t) es) of.told)

@@ -15,12 +15,10 @@ use Rattle.vl_engine_model.specs.Store.Lines.{Name}
 use Rattle.vl_engine_model.specs.Store.Things.{Thing}
 use Rattle.vl_engine_model.specs.declared.layout.Layout.{Layout}
 use Rattle.vl_model.specs.declared.entry.Entry.{Entry}
-use Rattle.vl_disk.specs.declared.read_fault.ReadFault.TheVariants as log
 use Rattle.vl_table.specs.CursorParts.{MayFailOn}
 use Rattle.vl_table.specs.OfTables.{AreOf}
 use Rattle.vl_table.specs.Tables.{IsOf, number_of, shape_of}
 use Rattle.vl_table.specs.declared.block_reader.BlockReader.{BlockReader}
-use Rattle.vl_disk.specs.declared.read_fault.ReadFault.TheVariants as table
 use Rattle.vl_table.specs.declared.table.Table.{Table}
 use Rattle.vl_table.specs.laws.TrueBlocks.{no_bad_block}
 use Rattle.vl_version.specs.Bases.{Fits}
@@ -46,9 +44,9 @@ module _ {H : Type 0} (bytes : H → Option (List ℕ)) (ts : List (Table H)) wh
   -- Of true tables none is damaged.
   sound_so : (tabled : List (List Entry)) → AreOf bytes ts tabled → (name : FileName) (place : ℕ) (told : ReadFault)
       → faults.Damaged name place ≡ told → MayFailOn bytes ts told → ⊥
-  sound_so tabled are name place table.NoMemory is may = absurd cc
-  sound_so tabled are name place (table.Disk n) is may = absurd cc
-  sound_so tabled are name place (table.Damaged n at) is (i, t, there, named, bad) =
+  sound_so tabled are name place faults.NoMemory is may = absurd cc
+  sound_so tabled are name place (faults.Disk n) is may = absurd cc
+  sound_so tabled are name place (faults.Damaged n at) is (i, t, there, named, bad) =
       let (es, of) = All-contains (λ (u : Table H). (es : List Entry) × IsOf bytes u es) ts t
       (All-from_recursion (λ (u : Table H). (es : List Entry) × IsOf bytes u es) ts (each_is tabled ts are)) (here ts i t there) in
       no_bad_block bytes t es at of (bad (table_bytes (shape_of t).format (number_of t) es) of.told)
@@ -56,9 +54,9 @@ module _ {H : Type 0} (bytes : H → Option (List ℕ)) (ts : List (Table H)) wh
 -- A log's damage is where it is said to be.
 torn_so : (bad : ℕ → Type 0) → ((place : ℕ) → bad place → ⊥) → (name : FileName) (place : ℕ) (told : ReadFault)
     → faults.Damaged name place ≡ told → found.IsThere bad told → ⊥
-torn_so bad none name place log.NoMemory is there = absurd cc
-torn_so bad none name place (log.Disk n) is there = absurd cc
-torn_so bad none name place (log.Damaged n at) is there = none at there
+torn_so bad none name place faults.NoMemory is there = absurd cc
+torn_so bad none name place (faults.Disk n) is there = absurd cc
+torn_so bad none name place (faults.Damaged n at) is there = none at there
 
 module _ {H R : Type 0} (bytes : H → Option (List ℕ)) (passing : Passing (Base H R) H) (ts : List (Name × Thing)) (l : Layout)
     (going : IsPassing bytes passing ts l) (looks : BlockReader R) (fits : Fits bytes passing.pass.base.version looks)
