@@ -88,7 +88,7 @@ invariant_of-self-in_default-append_durably-clause-lent g c =
 pub invariant_of-self-in_default-append_durably-clause-known : goal.invariant_of-self-in_default-append_durably-clause-known
 invariant_of-self-in_default-append_durably-clause-known g c =
     let before = c.args.self.now.core in
-    let last = c.end.ensures.oracle ∙ ap (oracle.ended c.args.txn.ticket) c.in-Ok.ensures.same.oracle in
+    let last = c.end.ensures.oracle ∙ ap (oracle.ended c.ticket-ticket.result) c.in-Ok.ensures.same.oracle in
     subst (λ (v : Version g.row.D-Held.Denot). are_known c.end.new.self.oracle.last v.active.entries ≡ true)
     (sym c.in-Ok.ensures.version)
     (subst (λ (o : LiveTickets). are_known o.last before.version.active.entries ≡ true) (sym last) c.args.self.now.known)
