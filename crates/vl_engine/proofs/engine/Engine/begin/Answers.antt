@@ -63,3 +63,6 @@ returns-clause-memory g c in_memory =
 
 pub returns-clause-blocks : goal.returns-clause-blocks
 returns-clause-blocks g c files = subst (AreKept files) (sym c.new.ensures.reader) (c.in_ok-view.ensures.blocks files)
+
+pub returns-clause-sees : goal.returns-clause-sees
+returns-clause-sees g c h l is = c.new.ensures.sees h (c.in_ok-view.ensures.sees h l is)
