@@ -35,7 +35,7 @@ use Rattle.vl_seglog.specs.declared.sealed.SealedLog.{SealedLog}
 use Rattle.vl_stats.specs.Tallies.{length_of}
 use Rattle.vl_version.specs.Shared.{IsSameLog}
 use Rattle.vl_version.specs.declared.version.Version.{Version}
-use Rattle.vl_space.specs.laws.CollectLaws.{IsAlike, frozen, flushed, levels, pass, alike_same, passed_alike, collects_alike}
+use Rattle.vl_space.specs.laws.CollectLaws.{IsAlike, alike_same, passed_alike, collects_alike}
 use Rattle.vl_space.specs.laws.CollectLaws.{collects_kept, tallies_made}
 
 -- ---- what a call came to
