@@ -43,6 +43,7 @@ pub use unfailing::Unfailing;
 pub use vl_cache::Cached;
 pub use vl_collect::{Batch, Pass};
 pub use vl_compact::{Job, JobReader, Lent};
+// What passes and merges answer where a file isn't read. `ReadFault` is the engine's, of reads into bytes that are given.
 pub use vl_disk::{Disk, HeldFile, Name, ReadFault as FileFault, Reader, Writer};
 pub use vl_engine::{
     AtFail, BeginFail, CommitFail, Done, Engine, Found, InstallFail, KeepFail, MergeFail, MoveFail,
