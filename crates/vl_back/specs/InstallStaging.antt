@@ -2,7 +2,7 @@
 use Rattle.std.specs.Prelude.{◌≡◌, ℕ, max, List, Some}
 use Rattle.vl_back.specs.InstallEdits.{Replacing, install_switch}
 use Rattle.vl_back.specs.declared.back.Back.{Back}
-use Rattle.vl_back.specs.declared.installing.StagedInstall.{StagedInstall}
+use Rattle.vl_back.specs.declared.install.StagedInstall.{StagedInstall}
 use Rattle.vl_manifest.specs.States.{next_state}
 use Rattle.vl_manifest.specs.Switching.{IsStaged, IsStagedFor}
 

@@ -3,7 +3,7 @@ use Rattle.std.specs.Prelude.{◌≡◌, ℕ, List, Some}
 use Rattle.vl_back.specs.FlushEdits.{flush_switch}
 use Rattle.vl_back.specs.Tables.{IsTableOf}
 use Rattle.vl_back.specs.declared.back.Back.{Back}
-use Rattle.vl_back.specs.declared.staging.StagedFlush.{StagedFlush}
+use Rattle.vl_back.specs.declared.flush.StagedFlush.{StagedFlush}
 use Rattle.vl_manifest.specs.States.{next_state}
 use Rattle.vl_manifest.specs.Switching.{IsStaged, IsStagedFor}
 use Rattle.vl_model.specs.declared.entry.Entry.{Entry}

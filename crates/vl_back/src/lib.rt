@@ -14,25 +14,25 @@
 //! no more of it: `make_room` took what a rotation wants.
 #![tactic(auto)]
 
-mod applying;
+mod apply;
 mod back;
-mod deciding;
+mod decide;
 mod decision;
 mod edits;
-mod installing;
-mod making;
-mod placing;
+mod install;
+mod make;
+mod placement;
 mod stage_fail;
-mod staging;
+mod flush;
 mod table;
-mod writing;
+mod switch;
 
 pub use back::Back;
 pub use decision::Decision;
-pub use installing::StagedInstall;
-pub use making::{make_log, make_table};
+pub use install::StagedInstall;
+pub use make::{make_log, make_table};
 pub use stage_fail::StageFail;
-pub use staging::StagedFlush;
+pub use flush::StagedFlush;
 pub use table::StagedTable;
 pub use vl_manifest::Waiting;
-pub use writing::write_and_switch;
+pub use switch::write_and_switch;

@@ -7,7 +7,7 @@ ghost use Rattle.vl_model.specs.declared.entry.Entry.{Entry};
 ghost use Rattle.vl_table.specs.writer.Writing.{IsWriting};
 
 use crate::StageFail;
-use crate::placing::{numbers_fit, placed};
+use crate::placement::{numbers_fit, placed};
 use std::alloc::{AllocError, Global};
 use std::sync::Arc;
 use vl_model::Cursor;

@@ -12,7 +12,7 @@ mod batch;
 mod laws;
 mod pass;
 mod still;
-mod taking;
+mod take;
 mod wins;
 
 pub use batch::{Batch, Found};

@@ -1,7 +1,7 @@
 //! A pass over the records of a sealed log, of which it finds those that win exactly from inside it.
 
 use crate::batch::{Batch, Found};
-use crate::taking::{records_of, take_found};
+use crate::take::{records_of, take_found};
 use std::alloc::Global;
 use vl_disk::{HeldFile, ReadFault, Reader};
 use vl_merge::Sources;

@@ -18,7 +18,7 @@ use Rattle.vl_compact.specs.laws.BehindLaws.{all_spent, behind_later}
 use Rattle.vl_compact.specs.laws.FirstTable.{closes, first_table, frames_length, last-append, table_and_rest}
 use Rattle.vl_compact.specs.laws.ProgressLaws.{is_past}
 use Rattle.vl_compact.specs.declared.files.Lent.{Lent}
-use Rattle.vl_compact.specs.declared.filling.Filled.{Filled}
+use Rattle.vl_compact.specs.declared.fill.Filled.{Filled}
 use Rattle.vl_compact.specs.declared.last.Last.{Last}
 use Rattle.vl_disk.specs.declared.writer.Writer.{Ghosts}
 use Rattle.vl_engine_model.specs.Tables.{full_table_bytes}

@@ -26,7 +26,7 @@ use Rattle.vl_compact.specs.laws.ProgressLaws.{all_there, is_past, last_past, me
 use Rattle.vl_compact.specs.laws.ProgressLaws.{one_missing, others_first, parted-rising, up_to-further}
 use Rattle.vl_compact.specs.declared.files.Lent.{Lent}
 use Rattle.vl_compact.specs.declared.files.Synced.{Synced}
-use Rattle.vl_compact.specs.declared.filling.Filled.{Filled}
+use Rattle.vl_compact.specs.declared.fill.Filled.{Filled}
 use Rattle.vl_compact.specs.declared.job.Job.{Job}
 use Rattle.vl_compact.specs.declared.last.Last.{Last}
 use Rattle.vl_compact.specs.declared.rules.Rules.{Rules}

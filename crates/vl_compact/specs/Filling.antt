@@ -15,7 +15,7 @@ use Rattle.vl_compact.specs.Walking.{spent, walk}
 use Rattle.vl_compact.specs.laws.FirstTable.{first_table, table_and_rest}
 use Rattle.vl_compact.specs.laws.ProgressLaws.{is_past}
 use Rattle.vl_compact.specs.declared.files.Lent.{Lent}
-use Rattle.vl_compact.specs.declared.filling.Filled.{Filled}
+use Rattle.vl_compact.specs.declared.fill.Filled.{Filled}
 use Rattle.vl_disk.specs.declared.writer.Writer.{Ghosts}
 use Rattle.vl_engine_model.specs.declared.job.Job.{Job}
 use Rattle.vl_model.specs.Merging.{IsAlong}

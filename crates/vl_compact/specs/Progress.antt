@@ -10,7 +10,7 @@ use Rattle.vl_compact.specs.Filling.{FailsFilling}
 use Rattle.vl_compact.specs.Keys.{all_named, behind, up_to}
 use Rattle.vl_compact.specs.Laid.{AreTablesOf}
 use Rattle.vl_compact.specs.Reading.{Counts}
-use Rattle.vl_compact.specs.declared.filling.Filled.{Filled}
+use Rattle.vl_compact.specs.declared.fill.Filled.{Filled}
 use Rattle.vl_compact.specs.declared.files.Lent.{Lent}
 use Rattle.vl_compact.specs.declared.files.Synced.{Synced}
 use Rattle.vl_compact.specs.declared.job.Job.{Job}

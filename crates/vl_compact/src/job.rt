@@ -4,14 +4,14 @@
 //! one table, so it begins anew behind the last key of its last table.
 
 use crate::Inputs;
-use crate::ending::append_reserved;
+use crate::append::append_reserved;
 use crate::files::{Lent, Synced};
-use crate::filling::{Filled, fill};
+use crate::fill::{Filled, fill};
 use crate::job_reader::JobReader;
 use crate::keeping::Keeping;
-use crate::merging::merged;
+use crate::merge::merged;
 use crate::parts::Parts;
-use crate::racing::{greatest, least_moved, numbers_of, total};
+use crate::race::{greatest, least_moved, numbers_of, total};
 use crate::rules::Rules;
 use std::alloc::{AllocError, Global};
 use vl_disk::{HeldFile, ReadFault, Reader, Writer};

@@ -13,24 +13,24 @@
 //! `ready_levels` shares all tables but the inputs, and takes the memory for the outputs, which are then put one by one.
 #![tactic(auto)]
 
-mod choosing;
+mod choice;
 mod due;
-mod ending;
+mod append;
 mod files;
-mod filling;
+mod fill;
 mod inputs;
 mod job;
 mod job_reader;
 mod keeping;
 mod last;
 mod laws;
-mod merging;
+mod merge;
 mod parts;
-mod planning;
-mod racing;
+mod plan;
+mod race;
 mod range;
 mod ready;
-mod replacing;
+mod replace;
 mod rules;
 
 pub use files::{Lent, Synced};
@@ -39,7 +39,7 @@ pub use job::Job;
 pub use job_reader::JobReader;
 pub use laws::merges_are_as_ruled;
 pub use parts::Parts;
-pub use planning::{drained, planned};
-pub use racing::numbers_of;
+pub use plan::{drained, planned};
+pub use race::numbers_of;
 pub use ready::ReadyLevels;
-pub use replacing::ready_levels;
+pub use replace::ready_levels;

@@ -6,7 +6,7 @@ use Rattle.vl_drive.specs.Knowing.{Knows}
 use Rattle.vl_drive.specs.Numbers.{transfer_in}
 use Rattle.vl_drive.specs.Steps.{Origin, count_by, history_by, is_end, is_ended, is_put}
 use Rattle.vl_drive.specs.Turns.{AreTurns, IsOpenedBy}
-use Rattle.vl_drive.specs.declared.running.Driven.{Driven}
+use Rattle.vl_drive.specs.declared.store_run.Driven.{Driven}
 use Rattle.vl_engine_model.specs.LockHistory.{IsLegal, entries_by}
 use Rattle.vl_engine_model.specs.declared.lock_history.LockEntry.{LockEntry}
 use Rattle.vl_model.specs.History.{last_number}

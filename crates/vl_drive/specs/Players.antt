@@ -8,9 +8,9 @@ use Rattle.vl_drive.specs.Modest.{AreModest, IsModest}
 use Rattle.vl_drive.specs.Numbers.{transfer_in}
 use Rattle.vl_drive.specs.Playing.{HasScored, IsCause, IsTrouble}
 use Rattle.vl_drive.specs.declared.client.Score.{Score}
-use Rattle.vl_drive.specs.declared.driving.DriveFail.{DriveFail}
-use Rattle.vl_drive.specs.declared.driving.DriveFail.TheVariants as fails
-use Rattle.vl_drive.specs.declared.driving.Player.{Player}
+use Rattle.vl_drive.specs.declared.clients.DriveFail.{DriveFail}
+use Rattle.vl_drive.specs.declared.clients.DriveFail.TheVariants as fails
+use Rattle.vl_drive.specs.declared.clients.Player.{Player}
 use Rattle.vl_drive.specs.declared.trouble.Cause.{Cause}
 use Rattle.vl_drive.specs.declared.trouble.Cause.TheVariants as cause
 use Rattle.vl_drive.specs.declared.trouble.Trouble.{Trouble}

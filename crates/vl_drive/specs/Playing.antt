@@ -5,8 +5,8 @@ use Rattle.vl_drive.specs.Knowing.{GoesOn, IsOwnTicket, Knows}
 use Rattle.vl_drive.specs.Modest.{IsBusy, IsIdle}
 use Rattle.vl_drive.specs.Steps.{AreBy, Origin, count_by, history_by, is_aside, is_end, is_ended, is_put, layout_by}
 use Rattle.vl_drive.specs.Turns.{EndsTurn, InTurn}
-use Rattle.vl_drive.specs.declared.committing.Tried.{Tried}
-use Rattle.vl_drive.specs.declared.committing.Tried.TheVariants as tried
+use Rattle.vl_drive.specs.declared.commit.Tried.{Tried}
+use Rattle.vl_drive.specs.declared.commit.Tried.TheVariants as tried
 use Rattle.vl_drive.specs.declared.transfer.Transfer.{Transfer}
 use Rattle.vl_drive.specs.declared.trouble.Cause.{Cause}
 use Rattle.vl_drive.specs.declared.trouble.Cause.TheVariants as cause

@@ -12,7 +12,7 @@ ghost use Rattle.vl_model.specs.History.{History, value_at};
 ghost use Rattle.vl_model.specs.Reads.{KeyRead, Read};
 
 use crate::accounts::{balance_bytes, balance_in};
-use crate::committing::commit;
+use crate::commit::commit;
 use crate::fails::{BeginFail, ReadFail};
 use crate::gate::{Gate, Point};
 use crate::shop::Shop;

@@ -6,7 +6,7 @@ ghost use Rattle.vl_drive.specs.Modest.{IsModest};
 ghost use Rattle.vl_drive.specs.Playing.{IsTrouble};
 
 use crate::client::{Score, begin, set};
-use crate::committing::{commit, passed_over};
+use crate::commit::{commit, passed_over};
 use crate::shop::Shop;
 use crate::trouble::Trouble;
 use std::alloc::Global;

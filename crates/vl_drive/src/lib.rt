@@ -14,19 +14,19 @@
 
 mod accounts;
 mod client;
-mod committing;
-mod driving;
+mod commit;
+mod clients;
 mod fails;
 mod gate;
 mod keeper;
 mod laws;
-mod running;
+mod store_run;
 mod shop;
 mod shops;
 mod transfer;
 mod trouble;
 
-pub use driving::{DriveFail, Tally, drive};
+pub use clients::{DriveFail, Tally, drive};
 pub use fails::{BeginFail, CommitFail, Done, ReadFail, StepFail};
 pub use gate::{Gate, NoGate, Point};
 pub use laws::{
@@ -34,7 +34,7 @@ pub use laws::{
     a_conflict_is_a_crossing, a_transfer_has_two_accounts, a_turn_goes_on,
     no_call_of_modest_shops_stops, steps_are_counted, sure_shops_meet_no_fault, turns_go_on,
 };
-pub use running::{Driven, drive_store};
+pub use store_run::{Driven, drive_store};
 pub use shop::Shop;
 pub use shops::{Closed, Shops};
 pub use transfer::Transfer;

@@ -6,7 +6,7 @@ use Rattle.std.specs.Option.{ForSome}
 use Rattle.vl_back.specs.Staging.{IsStagedFlush}
 use Rattle.vl_back.specs.Writing.{WhileWriting, flush_files, written}
 use Rattle.vl_back.specs.declared.back.Back.{Back}
-use Rattle.vl_back.specs.declared.staging.StagedFlush.{StagedFlush}
+use Rattle.vl_back.specs.declared.flush.StagedFlush.{StagedFlush}
 use Rattle.vl_disk.specs.Calls.{ChangesNothing}
 use Rattle.vl_disk.specs.Disk.{IsChangedBy}
 use Rattle.vl_disk.specs.DiskState.{DiskState}
@@ -25,7 +25,7 @@ use Rattle.vl_table.specs.declared.table.Table.{Table}
 use Rattle.vl_version.specs.Flushing.{IsFlushed}
 use Rattle.vl_version.specs.Needed.{head_of, is_kept}
 use Rattle.vl_version.specs.Oldest.{oldest_frozen}
-use Rattle.vl_version.specs.declared.flushing.FlushedVersion.{FlushedVersion}
+use Rattle.vl_version.specs.declared.flush.FlushedVersion.{FlushedVersion}
 use Rattle.vl_version.specs.declared.version.Version.{Version}
 
 -- ---- what is staged

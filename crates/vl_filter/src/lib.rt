@@ -7,13 +7,13 @@
 #![tactic(auto)]
 
 mod bits;
-mod building;
+mod builder;
 mod filter;
 mod hashes;
 mod last_key;
 mod laws;
 
-pub use building::build;
+pub use builder::build;
 pub use filter::{Filter, passes, read};
 pub use hashes::Hashes;
 pub use last_key::LastKey;

@@ -5,7 +5,7 @@ use crate::common::Common;
 use crate::folder_error::Trouble;
 use crate::identity::Identity;
 use crate::named::Named;
-use crate::opening::open_file;
+use crate::open::open_file;
 use crate::shared_file::SharedFile;
 use std::alloc::{AllocError, Global};
 use std::fs::File;

@@ -6,7 +6,7 @@ use crate::held::Shared;
 use crate::identity::Identity;
 use crate::named::Named;
 use crate::open_file::OpenFile;
-use crate::opening::{make_file, open_file, plain_file};
+use crate::open::{make_file, open_file, plain_file};
 use crate::shared_file::SharedFile;
 use std::alloc::{AllocError, Global};
 use std::fs::File;

@@ -24,8 +24,8 @@ mod in_place;
 mod kinds;
 mod limits;
 mod numbers;
-mod reading;
-mod writing;
+mod read;
+mod write;
 
 pub use frame::Frame;
 pub use header::{HEADER_BYTES, file_header, read_format, read_header};
@@ -33,5 +33,5 @@ pub use in_place::{HEAD_BYTES, finish_frame};
 pub use kinds::{FileKind, FrameKind};
 pub use limits::{FRAME_BYTES, MAX_FRAME_BYTES};
 pub use numbers::{take_bytes, take_u8, take_u16, take_u32, take_u64};
-pub use reading::read_frame;
-pub use writing::write_frame;
+pub use read::read_frame;
+pub use write::write_frame;

@@ -12,7 +12,7 @@ ghost use Rattle.vl_front.specs.Noting.{keys_of};
 ghost use Rattle.vl_front.specs.declared.decision.Decision.TheVariants.{Write};
 
 use crate::Decision;
-use crate::noting::{note_all, shared_keys};
+use crate::note::{note_all, shared_keys};
 use std::alloc::{AllocError, Global};
 use vl_conflict::Recent;
 use vl_disk::Name;

@@ -8,7 +8,7 @@
 
 mod decision;
 mod front;
-mod noting;
+mod note;
 
 pub use decision::Decision;
 pub use front::Front;

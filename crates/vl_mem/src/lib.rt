@@ -12,7 +12,7 @@ mod mem_reader;
 mod mem_writer;
 mod names;
 mod outcome;
-mod reading;
+mod read;
 mod steady_reader;
 mod steady_writer;
 mod stopping_disk;

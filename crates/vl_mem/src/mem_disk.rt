@@ -15,7 +15,7 @@ use crate::mem_reader::MemReader;
 use crate::mem_writer::MemWriter;
 use crate::names::names_of;
 use crate::outcome::Outcome;
-use crate::reading::read_bytes;
+use crate::read::read_bytes;
 use std::alloc::Global;
 use std::collections::BTreeMap;
 use vl_disk::{

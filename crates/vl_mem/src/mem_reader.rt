@@ -5,7 +5,7 @@ ghost use Rattle.vl_disk.specs.Faults.{HasCause, StaysSteady};
 ghost use Rattle.vl_mem.specs.Held.{held_bytes};
 
 use crate::held::MemHeld;
-use crate::reading::read_bytes;
+use crate::read::read_bytes;
 use vl_disk::{Failed, FaultPlan, HeldFile, Reader};
 
 /// What reads the files that a disk in memory shares.

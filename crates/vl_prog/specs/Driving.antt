@@ -1,7 +1,7 @@
 -- Clients over a store in memory: what is printed of them.
 use Rattle.std.specs.Prelude.{◌≡◌, ◌⊎◌, ℕ, List}
 use Rattle.vl_drive.specs.Driven.{HasDriven}
-use Rattle.vl_drive.specs.declared.running.Driven.{Driven}
+use Rattle.vl_drive.specs.declared.store_run.Driven.{Driven}
 use Rattle.vl_io.specs.declared.sink.Sink as sink
 use Rattle.vl_script_model.specs.Endings.{no_memory_line, status_of}
 use Rattle.vl_script_model.specs.Steps.{Finishes}

@@ -26,7 +26,7 @@ ghost use Rattle.vl_prog.specs.Run.{AreNotPlain, AskFor, EndsBy, FailedAtTables,
 ghost use Rattle.vl_prog.specs.Run.{MetDamage, StatusOfAnswers, StatusOfTrial, StatusWithoutOpening, TellsOfInput};
 ghost use Rattle.vl_script.specs.declared.words.Command.{Command as Commands};
 
-use crate::driving::drive;
+use crate::clients::drive;
 use std::alloc::Global;
 use std::sync::Wait;
 use std::thread::Threads;

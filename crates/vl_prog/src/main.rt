@@ -3,7 +3,7 @@
 #![tactic(auto)]
 
 mod command_line;
-mod driving;
+mod clients;
 mod process;
 
 use crate::process::{Served, process_words, serve};

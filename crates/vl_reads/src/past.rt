@@ -1,8 +1,8 @@
 //! How far back something may read.
 
-mod reading;
+mod read;
 
-pub(crate) use reading::read_past;
+pub(crate) use read::read_past;
 
 /// How far back something may read: the least number at which anything was read where it began, how many of the newest
 /// versions of a key were kept then, and since when.

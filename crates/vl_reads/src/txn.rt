@@ -1,11 +1,11 @@
 //! A transaction: a snapshot of the store, what was read of it, and what is to be written.
 
-mod beginning;
-mod reading;
-mod writing;
+mod begin;
+mod read;
+mod write;
 
 use crate::past::Past;
-pub(crate) use reading::tagged_value;
+pub(crate) use read::tagged_value;
 use std::alloc::Global;
 use vl_disk::HeldFile;
 use vl_table::BlockReader;

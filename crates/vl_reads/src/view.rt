@@ -1,7 +1,7 @@
 //! A view: a snapshot of the store, which is read alone.
 
-mod beginning;
-mod reading;
+mod begin;
+mod read;
 
 use crate::past::Past;
 use std::alloc::Global;

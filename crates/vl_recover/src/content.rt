@@ -2,7 +2,7 @@
 ghost use Rattle.std.specs.Prelude.{◌≡◌, ◌+◌, ◌++◌, ◌<◌, ◌^◌, true, length, map, reverse, IfOk};
 ghost use Rattle.vl_recover.specs.opening.ReadLogs.{HasFrameMore, HasNothing, IsContent, entries_in, entry_of};
 
-use crate::counting::count_on;
+use crate::count::count_on;
 use crate::found::Content;
 use std::alloc::{AllocError, Global};
 use vl_model::{Body, Change, Entry};

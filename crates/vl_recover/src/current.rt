@@ -15,7 +15,7 @@ ghost use Rattle.vl_recover.specs.opening.Opening.{Current, Led, Says};
 use crate::OpenError;
 use crate::found::GreatestNumbers;
 use crate::names::manifest_below;
-use crate::reading::read_whole;
+use crate::read::read_whole;
 use std::alloc::Global;
 use vl_disk::{Disk, Name};
 use vl_manifest::{ManifestLog, ManifestState, StateFail, newer_format};

@@ -18,7 +18,7 @@ ghost use Rattle.vl_recover.specs.opening.Opening as opening;
 use crate::OpenError;
 use crate::names::has;
 use crate::one_log::front_length;
-use crate::reading::{hold, read_part, size_of};
+use crate::read::{hold, read_part, size_of};
 use std::alloc::{AllocError, Global};
 use vl_disk::{Disk, HeldFile, Name};
 use vl_model::Point;

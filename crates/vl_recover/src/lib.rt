@@ -7,11 +7,11 @@
 #![tactic(auto)]
 
 mod content;
-mod counting;
+mod count;
 mod current;
-mod deciding;
+mod decide;
 mod fails;
-mod finding;
+mod find;
 mod found;
 mod last;
 mod led;
@@ -23,12 +23,12 @@ mod one_table;
 mod parts;
 mod plan;
 mod prepared;
-mod preparing;
-mod reading;
-mod recovering;
-mod repairing;
+mod prepare;
+mod read;
+mod open;
+mod repair;
 mod tables;
 
 pub use fails::{NO_FILE, OpenError, OpenFail};
 pub use parts::Parts;
-pub use recovering::recover;
+pub use open::recover;

@@ -23,12 +23,12 @@ ghost use Rattle.vl_recover.specs.opening.Walk.{StandingLog};
 ghost use Rattle.vl_seglog.specs.LogReading.{LogReading};
 
 use crate::OpenError;
-use crate::counting::count_end;
+use crate::count::count_end;
 use crate::found::{Content, DamagePlace, LastLog, LogFound, LogsFound};
 use crate::memtables::memtable_of;
 use crate::names::log_from;
 use crate::one_log::read_log;
-use crate::reading::hold;
+use crate::read::hold;
 use std::alloc::{AllocError, Global};
 use vl_disk::{Disk, HeldFile, Name};
 use vl_manifest::Waiting;

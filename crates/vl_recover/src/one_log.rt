@@ -13,7 +13,7 @@ ghost use Rattle.vl_recover.specs.opening.LogsSoFar.{FindsLog};
 use crate::OpenError;
 use crate::content::{no_content, read_content};
 use crate::found::LogFound;
-use crate::reading::{read_part, size_of};
+use crate::read::{read_part, size_of};
 use std::alloc::Global;
 use vl_disk::{Disk, Name};
 use vl_seglog::{LOG_HEADER_BYTES, header_format};

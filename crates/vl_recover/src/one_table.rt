@@ -13,7 +13,7 @@ ghost use Rattle.vl_recover.specs.opening.OpenedTables.{IsTableFound};
 
 use crate::OpenError;
 use crate::names::has;
-use crate::reading::hold;
+use crate::read::hold;
 use std::alloc::Global;
 use vl_disk::{Disk, Name};
 use vl_table::Table;

@@ -25,8 +25,8 @@ use Rattle.vl_table.specs.declared.block_reader.BlockReader.{BlockReader}
 use Rattle.vl_version.specs.declared.base.Base.{Base}
 use Rattle.vl_replay_laws.specs.Drawn.{IsServing, drawn_all, drawn_state}
 use Rattle.vl_replay.specs.Rounds.{RoundLeaves, Rounds, round_by}
-use Rattle.vl_replay.specs.declared.carrying.Round.{Round}
-use Rattle.vl_replay.specs.declared.carrying.Round.TheVariants as rounds
+use Rattle.vl_replay.specs.declared.tables.Round.{Round}
+use Rattle.vl_replay.specs.declared.tables.Round.TheVariants as rounds
 use Rattle.vl_script_model.specs.Halts.{HaltsByDisk}
 use Rattle.vl_script_model.specs.declared.fails.Halt.{Halt}
 use Rattle.vl_script_model.specs.Sequential.{State}

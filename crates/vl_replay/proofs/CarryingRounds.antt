@@ -30,8 +30,8 @@ use Rattle.vl_replay_laws.specs.Drawn.{IsServing, drawn_state}
 use Rattle.vl_script_model.specs.Halts.{HaltsByDisk}
 use Rattle.vl_replay.specs.Rounds.{EndsRound, IsUnderWay, Rounds, halt_by, round_by}
 use Rattle.vl_script_model.specs.Sequential.{State, history_of}
-use Rattle.vl_replay.specs.declared.carrying.Round.{Round}
-use Rattle.vl_replay.specs.declared.carrying.Round.TheVariants as rounds
+use Rattle.vl_replay.specs.declared.tables.Round.{Round}
+use Rattle.vl_replay.specs.declared.tables.Round.TheVariants as rounds
 use Rattle.vl_script_model.specs.declared.fails.Halt.{Halt}
 use Rattle.vl_replay.proofs.CarryingDisk.{rests}
 use Rattle.vl_replay.proofs.CarryingDraws.{Came, Draws, exhausted_came, exhausted_is, exhausted_past, failed_came}

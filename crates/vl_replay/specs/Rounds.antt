@@ -31,8 +31,8 @@ use Rattle.vl_script_model.specs.Durable.{HoldsState}
 use Rattle.vl_script_model.specs.Halts.{HaltsByDisk}
 use Rattle.vl_script_model.specs.Sequential.{State}
 use Rattle.vl_script_model.specs.Stored.{IsStored}
-use Rattle.vl_replay.specs.declared.carrying.Round.{Round}
-use Rattle.vl_replay.specs.declared.carrying.Round.TheVariants as rounds
+use Rattle.vl_replay.specs.declared.tables.Round.{Round}
+use Rattle.vl_replay.specs.declared.tables.Round.TheVariants as rounds
 use Rattle.vl_script_model.specs.declared.fails.Halt.{Halt}
 use Rattle.vl_script_model.specs.declared.fails.Halt.TheVariants as halts
 

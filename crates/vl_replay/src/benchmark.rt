@@ -18,7 +18,7 @@ ghost use Rattle.vl_script_model.specs.Trial.{begun};
 ghost use Rattle.vl_script_model.specs.Trying.{all_told};
 ghost use Rattle.vl_script_model.specs.declared.fails.Halt.TheVariants as halts;
 
-use crate::ending::{NO_MEMORY, finish};
+use crate::ended::{NO_MEMORY, finish};
 use crate::replayer::Replayer;
 use std::alloc::Global;
 use vl_disk::Disk;

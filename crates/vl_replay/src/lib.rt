@@ -2,21 +2,21 @@
 //! before it is answered.
 #![tactic(auto)]
 
-mod answering;
+mod answer;
 mod benchmark;
-mod carrying;
+mod tables;
 mod contents;
-mod ending;
+mod ended;
 mod input;
-mod refusing;
+mod refuse;
 mod replayer;
-mod running;
-mod trying;
+mod run;
+mod stopped;
 
 pub use benchmark::bench;
-pub use ending::{Ended, NO_MEMORY, USAGE, finish};
+pub use ended::{Ended, NO_MEMORY, USAGE, finish};
 pub use replayer::Replayer;
-pub use running::replay;
-pub use trying::trial;
+pub use run::replay;
+pub use stopped::trial;
 pub use vl_recover::{OpenError, OpenFail};
 pub use vl_script_model::{Ending, Halt, Refusal};

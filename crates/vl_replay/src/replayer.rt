@@ -1,17 +1,17 @@
 //! A script's lines answered, one after the other, over the engine.
 ghost use Rattle.vl_replay.specs.Handed.{CanHandIn};
 
-mod beginning;
-mod collecting;
-mod committing;
-mod dropping;
+mod begin;
+mod collect;
+mod commit;
+mod drop;
 mod lines;
-mod merging;
-mod opening;
-mod reading;
-mod stepping;
-mod sweeping;
-mod writing;
+mod merge;
+mod open;
+mod read;
+mod step;
+mod sweep;
+mod write;
 
 use std::alloc::Global;
 use vl_cache::Cached;

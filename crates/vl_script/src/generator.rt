@@ -4,7 +4,7 @@ ghost use Rattle.std.specs.Prelude.{◌≡◌, IfOk, OnErr, OnOk, drop, slice_ge
 ghost use Rattle.vl_script.specs.Generator.{bench_lines};
 
 mod at;
-mod writing;
+mod line;
 
 use crate::Line;
 use at::At;

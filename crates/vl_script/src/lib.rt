@@ -3,7 +3,7 @@
 
 mod answer;
 mod digits;
-mod finding;
+mod find;
 mod generator;
 mod laws;
 mod limits;
@@ -17,7 +17,7 @@ mod text;
 mod words;
 
 pub use answer::{Answer, SegmentLine};
-pub use finding::find_byte;
+pub use find::find_byte;
 pub use generator::Gen;
 pub use laws::a_worked_benchmark;
 pub use limits::{MAX_IDENT_BYTES, MAX_LINE_BYTES};

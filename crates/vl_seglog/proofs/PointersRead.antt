@@ -17,7 +17,7 @@ use Rattle.vl_seglog.specs.declared.frame.Frame.{Frame}
 use Rattle.vl_seglog.specs.declared.frame.ReadRecord.{ReadRecord}
 use Rattle.vl_seglog.specs.declared.frame.Said.{Said}
 use Rattle.vl_seglog.specs.declared.frame.Said.TheVariants as says
-use Rattle.vl_seglog.specs.declared.reading.LogRead.{LogRead}
+use Rattle.vl_seglog.specs.declared.read.LogRead.{LogRead}
 use Rattle.vl_seglog.specs.declared.staged.Staged.{Staged}
 use Rattle.vl_seglog.specs.laws.StoredLaws.{pointers_lead, reading_leads}
 

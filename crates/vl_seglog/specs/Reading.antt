@@ -11,7 +11,7 @@ use Rattle.vl_seglog.specs.declared.frame.Frame.{Frame}
 use Rattle.vl_seglog.specs.declared.frame.ReadRecord.{ReadRecord}
 use Rattle.vl_seglog.specs.declared.frame.Said.{Said}
 use Rattle.vl_seglog.specs.declared.frame.Said.TheVariants as says
-use Rattle.vl_seglog.specs.declared.reading.LogRead.{LogRead}
+use Rattle.vl_seglog.specs.declared.read.LogRead.{LogRead}
 use Rattle.vl_seglog.specs.Commit.{Commit}
 use Rattle.vl_seglog.specs.Bodies.{IsFrame, frame_body, frame_kind}
 use Rattle.vl_seglog.specs.LogReading.{LogReading, end_of}

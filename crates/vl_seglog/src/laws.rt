@@ -13,7 +13,7 @@ ghost use Rattle.vl_seglog.specs.Sealed.{IsFound};
 ghost use Rattle.vl_seglog.specs.Staging.{IsStaged};
 ghost use Rattle.vl_seglog.specs.Stored.{AllLead, LeadToAll, LeadsTo, frame_writes, stored_at};
 ghost use Rattle.vl_seglog.specs.declared.frame.Frame.{Frame};
-ghost use Rattle.vl_seglog.specs.declared.reading.LogRead.{LogRead};
+ghost use Rattle.vl_seglog.specs.declared.read.LogRead.{LogRead};
 ghost use Rattle.vl_seglog.specs.declared.staged.Staged.{Staged};
 
 /// The pointers of a frame lead to its records where it stands in its log: those that it was staged with, those of all

@@ -3,17 +3,17 @@
 //! Both are made when a call first wants them, and then each step on files changes them.
 #![tactic(auto)]
 
-mod collecting;
+mod collect;
 mod fails;
 mod kept;
 mod laws;
-mod pinning;
-mod removing;
-mod sweeping;
+mod pin;
+mod remove;
+mod sweep;
 
-pub use collecting::{head_of, idle_logs, shared_log, tally_of};
+pub use collect::{head_of, idle_logs, shared_log, tally_of};
 pub use fails::{PickFail, SweepFail};
 pub use kept::{Collecting, Removing};
-pub use pinning::begin;
-pub use removing::{give_up, leave_files};
-pub use sweeping::remove_file;
+pub use pin::begin;
+pub use remove::{give_up, leave_files};
+pub use sweep::remove_file;

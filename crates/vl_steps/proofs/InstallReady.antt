@@ -10,7 +10,7 @@ use Rattle.vl_compact.specs.declared.files.Synced.{Synced}
 use Rattle.vl_compact.specs.declared.job.Job.{Job}
 use Rattle.vl_disk.specs.declared.writer.Writer.{Ghosts as Writers}
 use Rattle.vl_steps.specs.Installing.{IsReadyFor, first_made}
-use Rattle.vl_steps.specs.declared.installing.ReadyInstall.{ReadyInstall}
+use Rattle.vl_steps.specs.declared.install.ReadyInstall.{ReadyInstall}
 use Rattle.vl_engine_laws.specs.declared.kept.Core.{Core}
 use Rattle.vl_engine_model.specs.Merging.{gone_after, needless}
 use Rattle.vl_engine_model.specs.declared.job.Job as laid_job

@@ -7,7 +7,7 @@ use Rattle.std.specs.Option.{ForSome}
 use Rattle.vl_back.specs.InstallStaging.{IsStagedInstall, replacing_of}
 use Rattle.vl_back.specs.Writing.{IsKept}
 use Rattle.vl_back.specs.declared.back.Back.{Back}
-use Rattle.vl_back.specs.declared.installing.StagedInstall.{StagedInstall}
+use Rattle.vl_back.specs.declared.install.StagedInstall.{StagedInstall}
 use Rattle.vl_compact.specs.Laid.{AreLevelsOf}
 use Rattle.vl_compact.specs.Places.{HasPlace, first_key}
 use Rattle.vl_compact.specs.Progress.{HasAll}
@@ -27,7 +27,7 @@ use Rattle.vl_disk.specs.declared.writer.Writer.{Ghosts as Writers}
 use Rattle.vl_steps.specs.Taking.{StopsTaking, TakesBack}
 use Rattle.vl_steps.specs.declared.fails.InstallFail.TheVariants as install
 use Rattle.vl_steps.specs.declared.fails.InstallFail.{InstallFail}
-use Rattle.vl_steps.specs.declared.installing.ReadyInstall.{ReadyInstall}
+use Rattle.vl_steps.specs.declared.install.ReadyInstall.{ReadyInstall}
 use Rattle.vl_engine_laws.specs.declared.kept.Core.{Core}
 use Rattle.vl_engine_laws.specs.declared.open.OpenMerge.{OpenMerge}
 use Rattle.vl_engine_model.specs.Decides.{Otherwise, as_before}

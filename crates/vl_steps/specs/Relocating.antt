@@ -23,7 +23,7 @@ use Rattle.vl_disk.specs.declared.watched.Watched.{Ghosts}
 use Rattle.vl_steps.specs.declared.fails.MoveFail.TheVariants as fails
 use Rattle.vl_steps.specs.declared.fails.MoveFail.{MoveFail}
 use Rattle.vl_engine_laws.specs.declared.open.OpenMerge.{OpenMerge}
-use Rattle.vl_steps.specs.declared.relocating.StagedMove.{StagedMove}
+use Rattle.vl_steps.specs.declared.relocate.StagedMove.{StagedMove}
 use Rattle.vl_frame.specs.Runs.{HasFrame}
 use Rattle.vl_engine_model.specs.Decides.{Answered, Damaged, Effects, Failed, NoMemory, Outcome, no_effects}
 use Rattle.vl_engine_model.specs.Relocation as layout

@@ -1,7 +1,7 @@
 -- A commit that is staged: its frame, and its entries in memory.
 use Rattle.std.specs.Prelude.{◌≡◌, ℕ, ◌+◌, ◌++◌, List, [], ◌∷◌}
 use Rattle.std.specs.FinMap.{entries}
-use Rattle.vl_steps.specs.declared.staging.StagedCommit.{StagedCommit}
+use Rattle.vl_steps.specs.declared.commit.StagedCommit.{StagedCommit}
 use Rattle.vl_front.specs.Noting.{keys_of}
 use Rattle.vl_front.specs.declared.front.Front.{Front}
 use Rattle.vl_engine_model.specs.Logs.{frame_entries, logged_body}

@@ -4,21 +4,21 @@
 
 mod done;
 mod fails;
-mod flushing;
-mod installing;
+mod flush;
+mod install;
 mod laws;
-mod making;
-mod relocating;
-mod rotating;
-mod staging;
-mod writing;
+mod fresh;
+mod relocate;
+mod rotate;
+mod commit;
+mod append;
 
 pub use done::Done;
 pub use fails::{CommitFail, InstallFail, KeepFail, MoveFail, StepFail};
-pub use flushing::{ReadyFlush, ready_flush};
-pub use installing::{ReadyInstall, input_numbers, made_numbers, ready_install, write_install};
-pub use making::{lend_new, lent_count, make_room_to_leave, note_lent, ready_fresh};
-pub use relocating::{StagedMove, has_room, move_length, note_moves, records_to_move, stage_move};
-pub use rotating::{refusal, stage_rotation};
-pub use staging::{StagedCommit, stage_commit};
-pub use writing::append_durably;
+pub use flush::{ReadyFlush, ready_flush};
+pub use install::{ReadyInstall, input_numbers, made_numbers, ready_install, write_install};
+pub use fresh::{lend_new, lent_count, make_room_to_leave, note_lent, ready_fresh};
+pub use relocate::{StagedMove, has_room, move_length, note_moves, records_to_move, stage_move};
+pub use rotate::{refusal, stage_rotation};
+pub use commit::{StagedCommit, stage_commit};
+pub use append::append_durably;

@@ -23,7 +23,7 @@ use Rattle.vl_table.specs.writer.Writing.{HasBlocks, IsWriting}
 use Rattle.vl_table.proofs.Fits.{has_table}
 use Rattle.vl_table.proofs.Written.{closed_frame}
 use Rattle.vl_table.specs.declared.writer.blocks_writer.BlocksWriter.{BlocksWriter}
-use Rattle.vl_table.specs.declared.writer.finishing.Rest.{Rest}
+use Rattle.vl_table.specs.declared.writer.finish.Rest.{Rest}
 use Rattle.vl_table.specs.declared.writer.tail.Tail.{Tail}
 use Rattle.vl_table.specs.declared.writer.table_writer.TableWriter.{TableWriter}
 

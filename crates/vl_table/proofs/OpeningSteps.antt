@@ -8,7 +8,7 @@ use Rattle.vl_table.proofs.Stages.{IsPlace, NoHeader, NoPlace, behind_place}
 use Rattle.vl_table.specs.Opening.{HasFooter, IsDamaged, IsRead, StandsFooter, no_filter, no_footer, no_index}
 use Rattle.vl_table.specs.OpeningParts.{HasParts, NoParts, NotLedTo, with_footer, without_filter, without_footer, without_index}
 use Rattle.vl_disk.specs.declared.read_fault.ReadFault.{ReadFault}
-use Rattle.vl_table.specs.declared.opening.Parts.{Parts}
+use Rattle.vl_table.specs.declared.open.Parts.{Parts}
 
 module _ (format number : ℕ) (bytes : List ℕ) where
   has_footer : (place : ℕ) (f : Foot) → IsBegun format number bytes → IsPlace bytes place

@@ -4,7 +4,7 @@ use Rattle.vl_table.specs.body.Footer.{Foot, foot_of}
 use Rattle.vl_table.specs.declared.body.footer_head.FramePlace.{FramePlace}
 use Rattle.vl_table.specs.declared.body.index.BlockPlace.{BlockPlace}
 use Rattle.vl_table.specs.Opening.{FilterAt, StandsFilter, StandsFooter, StandsIndex}
-use Rattle.vl_table.specs.declared.opening.Parts.{Parts}
+use Rattle.vl_table.specs.declared.open.Parts.{Parts}
 
 -- ---- what is missing, and that the damage is there
 

@@ -1,7 +1,7 @@
 -- What was read of a table before it is asked for.
 use Rattle.std.specs.Prelude.{◌≡◌, ℕ, List, ◌++◌, drop, Option}
 use Rattle.std.specs.Option.{ForSome}
-use Rattle.vl_table.specs.declared.reading.Ahead.{Ahead}
+use Rattle.vl_table.specs.declared.read.Ahead.{Ahead}
 
 -- the file has these bytes at their place
 abbrev pub AheadOf : List ℕ → Ahead → Type 0

@@ -15,7 +15,7 @@ ghost use Rattle.vl_table.specs.Tested.{IsTested};
 use crate::body::{MAX_BLOCK_ENTRIES, find_starts};
 use crate::fault::damaged;
 use crate::part::{body_of, read_into};
-use crate::reading::fill;
+use crate::read::fill;
 use crate::slot::{BlockId, MAX_FRAME_BYTES};
 use crate::tested::Tested;
 use vl_disk::{HeldFile, ReadFault, Reader};

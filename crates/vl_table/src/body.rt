@@ -17,7 +17,7 @@ mod pointers;
 mod points;
 mod shape;
 mod short_value;
-mod taking;
+mod take;
 
 pub use block::{MAX_BLOCK_ENTRIES, MAX_BODY_BYTES, find_starts};
 pub use entry_ref::{BodyRef, EntryRef, ValueRef};
@@ -27,4 +27,4 @@ pub use found::{Found, FoundBody};
 pub use index::{BlockPlace, read_index};
 pub use shape::TableShape;
 pub use short_value::ShortValue;
-pub use taking::{FAR, GONE, INLINE, entry_at};
+pub use take::{FAR, GONE, INLINE, entry_at};

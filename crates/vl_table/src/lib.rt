@@ -10,7 +10,7 @@
 //! many cursors go forward in turn, and none drives out another's block. An entry is decoded and copied when it is given.
 #![tactic(auto)]
 
-mod beginning;
+mod begin;
 mod block;
 mod block_reader;
 mod body;
@@ -19,9 +19,9 @@ mod entries;
 mod fault;
 mod laws;
 mod open_block;
-mod opening;
+mod open;
 mod part;
-mod reading;
+mod read;
 mod slot;
 mod span_blocks;
 mod stretch;

@@ -9,7 +9,7 @@ ghost use Rattle.vl_table.specs.Begun.{FrameAt};
 ghost use Rattle.vl_table.specs.ReadAhead.{IsAhead};
 
 use crate::fault::damaged;
-use crate::reading::{Ahead, fill, fill_from};
+use crate::read::{Ahead, fill, fill_from};
 use vl_disk::{HeldFile, ReadFault, Reader};
 use vl_frame::{FRAME_BYTES, FileKind, FrameKind, read_frame};
 

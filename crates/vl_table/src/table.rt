@@ -24,7 +24,7 @@ ghost use Rattle.vl_table.specs.Tables.{AreSame, IsOf, OpensAs, number_of, shape
 use crate::block_reader::BlockReader;
 use crate::body::{BlockPlace, Found, TableShape};
 use crate::entries::Scan;
-use crate::opening::read_shape;
+use crate::open::read_shape;
 use crate::span_blocks::{is_from, is_up_to};
 use crate::tested::Tested;
 use std::alloc::{AllocError, Global};

@@ -8,7 +8,7 @@ mod add_fail;
 mod block_writer;
 mod blocks_writer;
 mod entry;
-mod finishing;
+mod finish;
 mod footer;
 mod framed;
 mod index;

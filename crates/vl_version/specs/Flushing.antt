@@ -2,7 +2,7 @@
 use Rattle.std.specs.Prelude.{◌≡◌, ◌<◌, ℕ, List, Option, vec_capacity, vec_len}
 use Rattle.vl_version.specs.Oldest.{but_oldest}
 use Rattle.vl_version.specs.Shared.{AreSameLevels, AreSameLogs}
-use Rattle.vl_version.specs.declared.flushing.FlushedVersion.{FlushedVersion}
+use Rattle.vl_version.specs.declared.flush.FlushedVersion.{FlushedVersion}
 use Rattle.vl_version.specs.declared.version.Version.{Version}
 
 -- All is as in the version but for the oldest frozen log, which is gone. The table of its entries isn't there yet.

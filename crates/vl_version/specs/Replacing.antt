@@ -1,7 +1,7 @@
 -- What stands behind an install, but for its levels.
 use Rattle.std.specs.Prelude.{◌≡◌, ℕ, List, Option}
 use Rattle.vl_version.specs.Shared.{AreSameLogs}
-use Rattle.vl_version.specs.declared.replacing.ReplacedVersion.{ReplacedVersion}
+use Rattle.vl_version.specs.declared.replace.ReplacedVersion.{ReplacedVersion}
 use Rattle.vl_version.specs.declared.version.Version.{Version}
 
 -- all but the levels is as in the version

@@ -20,13 +20,13 @@ ghost use Rattle.vl_version.specs.declared.levels.look.Look.TheVariants as looks
 mod level;
 mod look;
 mod lookup;
-mod marking;
-mod sharing;
+mod mark;
+mod share;
 
 pub use level::Level;
 use look::Look;
 use lookup::{look_in, look_in_level};
-pub use marking::is_input;
+pub use mark::is_input;
 use std::alloc::Global;
 use vl_disk::{HeldFile, ReadFault, Reader};
 use vl_table::{BlockReader, Found, Table};

@@ -19,7 +19,7 @@
 
 mod base;
 mod behind;
-mod flushing;
+mod flush;
 mod found;
 mod frozen;
 mod gather;
@@ -28,9 +28,9 @@ mod needed;
 mod newest;
 mod own;
 mod owned;
-mod replacing;
-mod resolving;
-mod rotating;
+mod replace;
+mod resolve;
+mod rotate;
 mod rows;
 mod shared;
 mod source;
@@ -39,9 +39,9 @@ mod wanted;
 
 pub use base::Base;
 pub use behind::Behind;
-pub use flushing::FlushedVersion;
+pub use flush::FlushedVersion;
 pub use found::Found;
 pub use levels::{Level, Levels, is_input};
-pub use replacing::ReplacedVersion;
+pub use replace::ReplacedVersion;
 pub use version::Version;
 pub use wanted::Wanted;

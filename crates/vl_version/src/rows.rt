@@ -13,7 +13,7 @@ ghost use Rattle.vl_version.specs.Sources.{AreTold, stored_in};
 ghost use Rattle.vl_disk.specs.declared.read_fault.ReadFault.{ReadFault};
 ghost use Rattle.vl_disk.specs.declared.read_fault.ReadFault.TheVariants as why;
 
-use crate::resolving::resolve;
+use crate::resolve::resolve;
 use std::alloc::Global;
 use vl_disk::{HeldFile, ReadFault, Reader};
 use vl_model::{Cursor, Entry, Key, Value};

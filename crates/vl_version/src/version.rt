@@ -25,7 +25,7 @@ use crate::behind::{Behind, SharedBehind};
 use crate::frozen::find_frozen;
 use crate::gather::sources_within;
 use crate::newest::{newer_of, stand_in};
-use crate::resolving::{resolve_newest, resolve_newest_into};
+use crate::resolve::{resolve_newest, resolve_newest_into};
 use crate::rows::take_rows;
 use crate::{Found, Levels, Wanted};
 use std::alloc::{AllocError, Global};

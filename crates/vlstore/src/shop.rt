@@ -1,17 +1,17 @@
 //! Sessions as those ask for them who drive clients over a store.
 
-mod answering;
+mod answers;
 mod collecting;
-mod ending;
-mod handing;
-mod holding;
-mod shopping;
+mod ends;
+mod hand;
+mod sure;
+mod calls;
 
 ghost use Rattle.std.specs.Prelude.{◌≡◌, None, true};
 
 use crate::session::Session;
 use crate::unfailing::Unfailing;
-pub use holding::{SureEngine, SureStore};
+pub use sure::{SureEngine, SureStore};
 
 /// A session whose store's disk told its bytes when the store was made, and never fails; and the store wasn't halted
 /// then. So none of its calls is answered by a fault.

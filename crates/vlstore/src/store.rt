@@ -1,7 +1,7 @@
 //! A store: a lock round an engine, and its sessions.
 
-mod closing;
-mod opening;
+mod close;
+mod open;
 
 use crate::locked::Locked;
 use std::alloc::Global;

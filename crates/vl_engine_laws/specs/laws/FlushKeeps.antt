@@ -9,7 +9,7 @@ use Rattle.vl_back.specs.Writing.{IsKept, KeepsOthers, WhileWriting, written}
 use Rattle.vl_back.specs.declared.back.Back.{Back}
 use Rattle.vl_back.specs.declared.stage_fail.StageFail.TheVariants as why
 use Rattle.vl_back.specs.declared.stage_fail.StageFail.{StageFail}
-use Rattle.vl_back.specs.declared.staging.StagedFlush.{StagedFlush}
+use Rattle.vl_back.specs.declared.flush.StagedFlush.{StagedFlush}
 use Rattle.vl_disk.specs.Calls.{ChangesNothing}
 use Rattle.vl_disk.specs.Disk.{IsChangedBy, Stands}
 use Rattle.vl_disk.specs.DiskState.{DiskState, File}

@@ -6,7 +6,7 @@ use Rattle.vl_table.specs.body.Bytes.{table_bytes}
 use Rattle.vl_table.specs.body.Shapes.{IsShapeOf}
 use Rattle.vl_table.specs.declared.body.shape.TableShape.{TableShape}
 use Rattle.vl_back.specs.Tables as staged
-use Rattle.vl_back.specs.declared.staging.StagedFlush.{StagedFlush}
+use Rattle.vl_back.specs.declared.flush.StagedFlush.{StagedFlush}
 use Rattle.vl_disk.specs.DiskState.{DiskState}
 use Rattle.vl_engine_laws.specs.FlushFacts.{IsNextVersion, IsTableHeld}
 use Rattle.vl_engine_laws.specs.Laid.{AreLevelsOf, AreTablesOf, HasLayout, IsMemtableOf, IsTableOf, by_level}

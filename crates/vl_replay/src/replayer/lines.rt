@@ -19,8 +19,8 @@ ghost use Rattle.vl_script_model.specs.Stored.{IsStopped, IsStored};
 ghost use Rattle.vl_script_model.specs.declared.fails.Halt.{Halt as Halts};
 ghost use Rattle.vl_script_model.specs.declared.fails.Halt.TheVariants as halts;
 
-use crate::replayer::collecting::{batch, end, is_passing, move_batch, pick, stats};
-use crate::replayer::merging::{install, is_planned, plan};
+use crate::replayer::collect::{batch, end, is_passing, move_batch, pick, stats};
+use crate::replayer::merge::{install, is_planned, plan};
 use crate::replayer::{Replayer, Served};
 use std::alloc::AllocError;
 use vl_disk::{Disk, HeldFile, Writer};

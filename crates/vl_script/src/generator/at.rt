@@ -3,7 +3,7 @@
 ghost use Rattle.std.specs.Prelude.{◌+◌, ◌<◌, ◌^◌};
 
 use crate::Line;
-use crate::generator::writing::{ident, next_number, scan_line, write_line};
+use crate::generator::line::{ident, next_number, scan_line, write_line};
 use std::alloc::{AllocError, Global};
 
 // Where a generator is: at a step of a round, with so many rounds behind this one.

@@ -1,7 +1,7 @@
 -- Where a rotation, a flush or a change of how many versions are kept failed, what isn't durable of the disk is torn by pieces.
 use Rattle.std.proofs.Common.{◌≡◌, ⊎_elim, ℕ, List, sym, ◌∙◌, subst, arith}
 use Rattle.std.specs.Prelude.{Option, None, Some}
-use Rattle.vl_back.specs.declared.staging.StagedFlush.{StagedFlush}
+use Rattle.vl_back.specs.declared.flush.StagedFlush.{StagedFlush}
 use Rattle.vl_disk.specs.DiskState.{DiskState}
 use Rattle.vl_disk.specs.MadeFile.{WhileMaking}
 use Rattle.vl_disk.specs.Moments.{While}

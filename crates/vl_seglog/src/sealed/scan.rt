@@ -8,7 +8,7 @@ ghost use Rattle.vl_seglog.specs.Sealed.{HasLength, IsFound, IsTorn};
 
 use crate::fault::damaged;
 use crate::frame::Frame;
-use crate::reading::read_next;
+use crate::read::read_next;
 use crate::sealed::SealedLog;
 use crate::sealed::fill::{fill, is_inside};
 use byteorder::{BigEndian, ByteOrder};

@@ -7,7 +7,7 @@ use Rattle.vl_back.specs.FlushEdits.{flush_switch}
 use Rattle.vl_back.specs.Tables as staged
 use Rattle.vl_back.specs.Writing.{WhileWriting, written}
 use Rattle.vl_back.specs.declared.back.Back.{Back}
-use Rattle.vl_back.specs.declared.staging.StagedFlush.{StagedFlush}
+use Rattle.vl_back.specs.declared.flush.StagedFlush.{StagedFlush}
 use Rattle.vl_table.specs.body.Bytes.{IsTable}
 use Rattle.vl_disk.specs.Disk.{IsChangedBy}
 use Rattle.vl_disk.specs.Crash.{Image}

@@ -43,7 +43,7 @@ use Rattle.vl_engine_laws.specs.Represents.{IsHeld, Represents, StandsFor, file_
 use Rattle.vl_engine_laws.specs.Shown.{LeavesBetween}
 use Rattle.vl_engine_laws.specs.MayStep.{AreLogFiles, Fits, MayStep}
 use Rattle.vl_steps.specs.Taking.{StopsTaking, Takes, TakesBack, file_of_table, with_files}
-use Rattle.vl_steps.specs.declared.installing.ReadyInstall.{ReadyInstall}
+use Rattle.vl_steps.specs.declared.install.ReadyInstall.{ReadyInstall}
 use Rattle.vl_engine_laws.specs.declared.kept.Core.{Core}
 use Rattle.vl_engine_laws.specs.declared.open.OpenMerge.{OpenMerge}
 use Rattle.vl_engine_laws.specs.laws.FileLaws.{all_each, all_front}

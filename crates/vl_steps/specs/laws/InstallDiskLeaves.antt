@@ -28,7 +28,7 @@ use Rattle.vl_steps.specs.Installing.{IsReadyFor, StopsInstalling, StopsSwitchin
 use Rattle.vl_engine_laws.specs.Represents.{IsHeld, Represents, file_of}
 use Rattle.vl_engine_laws.specs.MayStep.{LeavesNumbers}
 use Rattle.vl_steps.specs.Taking.{StopsTaking, file_of_table, with_files}
-use Rattle.vl_steps.specs.declared.installing.ReadyInstall.{ReadyInstall}
+use Rattle.vl_steps.specs.declared.install.ReadyInstall.{ReadyInstall}
 use Rattle.vl_engine_laws.specs.declared.kept.Core.{Core}
 use Rattle.vl_engine_laws.specs.laws.FlushBase.{state_more}
 use Rattle.vl_engine_laws.specs.laws.KeptLaws.{base_kept, manifests_beside_table}

@@ -18,7 +18,7 @@ use Rattle.vl_steps.specs.Installing.{IsReadyFor, first_made}
 use Rattle.vl_steps.specs.Merging.{HasAllMerge}
 use Rattle.vl_engine_laws.specs.Pointed.{layout_logs}
 use Rattle.vl_engine_laws.specs.Represents.{IsHeld, Represents}
-use Rattle.vl_steps.specs.declared.installing.ReadyInstall.{ReadyInstall}
+use Rattle.vl_steps.specs.declared.install.ReadyInstall.{ReadyInstall}
 use Rattle.vl_engine_laws.specs.declared.kept.Core.{Core}
 use Rattle.vl_steps.specs.laws.InstallApplies.{edits_of, gone_most, install_staged, replacing, state}
 use Rattle.vl_steps.specs.laws.InstallBase.{CanInstall}

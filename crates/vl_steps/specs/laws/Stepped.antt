@@ -8,7 +8,7 @@ use Rattle.std.proofs.Common.{sym, ap, subst, ◌∙◌, append-nil, length-appe
 use Rattle.std.proofs.lemmas.List.{take_all}
 use Rattle.vl_back.specs.FlushEdits.{head_of, switch_of}
 use Rattle.vl_back.specs.declared.back.Back.{Back}
-use Rattle.vl_back.specs.declared.staging.StagedFlush.{StagedFlush}
+use Rattle.vl_back.specs.declared.flush.StagedFlush.{StagedFlush}
 use Rattle.vl_disk.specs.Changes.{changed_there}
 use Rattle.vl_disk.specs.Disk.{Stands}
 use Rattle.vl_disk.specs.DiskState.{DiskState, File, appended, file_at, lengthened, new_file, synced_file}

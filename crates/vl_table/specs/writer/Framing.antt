@@ -10,7 +10,7 @@ use Rattle.vl_table.specs.body.Footer.{foot_of, footer_body}
 use Rattle.vl_table.specs.body.Index.{index_body}
 use Rattle.vl_table.specs.writer.PointSums.{points_in}
 use Rattle.vl_table.specs.declared.writer.blocks_writer.BlocksWriter.{BlocksWriter}
-use Rattle.vl_table.specs.declared.writer.finishing.Rest.{Rest}
+use Rattle.vl_table.specs.declared.writer.finish.Rest.{Rest}
 use Rattle.vl_table.specs.declared.writer.framed.Framed.{Framed}
 use Rattle.vl_table.specs.declared.writer.summary.Summary.{Summary}
 use Rattle.vl_table.specs.declared.writer.tail.Tail.{Tail}

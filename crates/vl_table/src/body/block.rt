@@ -10,7 +10,7 @@ ghost use Rattle.vl_table.specs.body.Lists.{IsNext, IsRun};
 ghost use Rattle.vl_table.specs.body.Starts.{AreStarts};
 
 use crate::body::entry_ref::EntryRef;
-use crate::body::taking::take_entry;
+use crate::body::take::take_entry;
 use vl_frame::take_u32;
 use vl_model::place_order;
 

@@ -10,7 +10,7 @@ ghost use Rattle.vl_table.specs.writer.Writing.{Appended, HasRoom, IsWriting, Ma
 
 use crate::writer::add_fail::AddFail;
 use crate::writer::blocks_writer::BlocksWriter;
-use crate::writer::finishing::Rest;
+use crate::writer::finish::Rest;
 use crate::writer::lawful::is_lawful;
 use crate::writer::summary::Summary;
 use crate::writer::tail::Tail;

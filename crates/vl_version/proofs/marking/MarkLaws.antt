@@ -17,7 +17,7 @@ use Rattle.vl_version.specs.Bases.{is_input}
 use Rattle.vl_version.specs.levels.LevelTables.{AreApart, ends_before, footer_of}
 use Rattle.vl_version.specs.levels.Looks.{sought}
 use Rattle.vl_version.specs.levels.Marks.{first_mark, is_passed, mark_if, mark_of, or_mark}
-use Rattle.vl_version.specs.declared.levels.marking.Asked.{Asked}
+use Rattle.vl_version.specs.declared.levels.mark.Asked.{Asked}
 use Rattle.vl_version.proofs.looking.LevelLaws.{apart_rest, later_above}
 use Rattle.vl_version.proofs.looking.LookLaws.{sought-none}
 use Rattle.vl_version.proofs.looking.Parts.{all-back, all-front}

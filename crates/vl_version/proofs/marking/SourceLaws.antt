@@ -26,9 +26,9 @@ use Rattle.vl_version.specs.levels.Looks.{sought}
 use Rattle.vl_version.specs.levels.Marks.{Tells, TellsFirst, first_mark, mark_if, or_mark}
 use Rattle.vl_version.specs.declared.levels.look.Look.{Look}
 use Rattle.vl_version.specs.declared.levels.look.Look.TheVariants.{UpTo, Exactly}
-use Rattle.vl_version.specs.declared.levels.marking.Asked.{Asked}
+use Rattle.vl_version.specs.declared.levels.mark.Asked.{Asked}
 use Rattle.vl_version.specs.declared.version.Version.{Version}
-use Rattle.vl_version.proofs.marking.TellLaws.{asks_next, fails_so, says_too}
+use Rattle.vl_version.proofs.mark.TellLaws.{asks_next, fails_so, says_too}
 
 -- ---- marked entries
 

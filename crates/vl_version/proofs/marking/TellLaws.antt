@@ -24,12 +24,12 @@ use Rattle.vl_version.specs.levels.LevelTables.{AreApart, ends_before}
 use Rattle.vl_version.specs.levels.LookedUp.{LooksOn, NamesAsked}
 use Rattle.vl_version.specs.levels.Looks.{better, sought}
 use Rattle.vl_version.specs.levels.Marks.{Tells, TellsFirst, first_mark, is_passed, mark_if, mark_of, or_mark}
-use Rattle.vl_version.specs.declared.levels.marking.Asked.{Asked}
+use Rattle.vl_version.specs.declared.levels.mark.Asked.{Asked}
 use Rattle.vl_version.proofs.looking.LevelLaws.{level-parted}
 use Rattle.vl_version.proofs.looking.LookLaws.{better-none}
 use Rattle.vl_version.proofs.looking.Parts.{split_at}
 use Rattle.vl_version.proofs.looking.ReadsOfSome.{read_back, read_front}
-use Rattle.vl_version.proofs.marking.MarkLaws.{level_marked, or-none, parts_of}
+use Rattle.vl_version.proofs.mark.MarkLaws.{level_marked, or-none, parts_of}
 
 no_failure : (now : ℕ) → HasCause now now ⊥
 no_failure now = record { later = omega arith; rose = λ failed. absurd failed; steady = λ steady. refl }

@@ -13,7 +13,7 @@ use Rattle.vl_disk.specs.declared.read_fault.ReadFault.{ReadFault}
 use Rattle.vl_table.specs.declared.table.Table.{Table}
 use Rattle.vl_version.specs.Bases.{is_input}
 use Rattle.vl_version.specs.levels.Looks.{sought}
-use Rattle.vl_version.specs.declared.levels.marking.Asked.{Asked}
+use Rattle.vl_version.specs.declared.levels.mark.Asked.{Asked}
 
 -- ---- which table is the first
 

@@ -5,7 +5,7 @@ ghost use Rattle.std.specs.Option.{option_copied};
 ghost use Rattle.vl_version.specs.Sources.{AreRising, log_in};
 
 use crate::Version;
-use crate::resolving::log_of;
+use crate::resolve::log_of;
 use vl_disk::HeldFile;
 use vl_seglog::SealedLog;
 

@@ -1,0 +1,12 @@
+use Rattle.std.proofs.Common.{[], ◌∷◌, ◌++◌}
+use Rattle.std.proofs.lemmas.Result.{on_ok_weaker}
+use Rattle.vl_compact.proofs.Pieces.{more_out}
+use Rattle.vl_compact.proofs.fill.add.Goals as goal
+
+pub returns-in-Ok-clause-added : goal.returns-in-Ok-clause-added
+returns-in-Ok-clause-added g c = λ es written.
+    on_ok_weaker c.append_some.result
+    (λ file. more_out g.W.Writer c.args.lent.now c.append_some.new.lent c.add.new.self (es ++ c.args.entry.now ∷ []) written.given
+    c.new-block.result.items c.add.new.out.items c.deref.result.now c.new-block.ensures.items c.deref.ensures.value
+    c.append_some.ensures.number (c.in-Ok.ensures.added c.args.lent.now.number es written.given written.writing) file)
+    (c.append_some.ensures.bytes written.given written.file)

@@ -1,0 +1,32 @@
+use Rattle.std.proofs.Common.{List, [], ◌∷◌, ◌++◌, Some, ap, subst, sym, ◌∙◌}
+use Rattle.std.proofs.lemmas.Result.{IfOk-weaker}
+use Rattle.vl_model.specs.Cutting.{joined}
+use Rattle.vl_compact.proofs.Lefts.{fails_shared, one_left}
+use Rattle.vl_compact.proofs.Of.{shared_is}
+use Rattle.vl_model.specs.declared.span.Span.{Span}
+use Rattle.vl_model.specs.EntryOrder.{within}
+use Rattle.vl_table.specs.CursorParts.{MayFailOn}
+use Rattle.vl_table.specs.OfTables.{AreOf}
+use Rattle.vl_table.specs.declared.table.Table.{Table}
+use Rattle.vl_compact.proofs.merge.cursor.Goals as goal
+
+pub returns-clause-left : goal.returns-clause-left
+returns-clause-left g c = λ t is.
+    let bytes = g.H.HeldFile.bytes in
+    let copy = c.in_ok-share.field-0 in
+    let items = c.in_ok-push.ensures.items ∙ ap (λ (l : List (Table g.row.H.Denot)). l ++ copy ∷ []) c.new-one.ensures.items in
+    IfOk-weaker c.new.result _ _
+    (λ it left. left ∙ ap (λ (s : Span). Some (within s (joined (t.entries ∷ [])))) c.in_ok-span_behind.ensures
+    ∙ ap (λ es. Some es) (one_left c.args.after.now t.entries))
+    (c.new.ensures.left (t.entries ∷ []) (subst (λ (l : List (Table g.row.H.Denot)). AreOf bytes l (t.entries ∷ [])) (sym items)
+    ((shared_is bytes g.H.HeldFile.size g.H.HeldFile.named c.args.table.now copy t c.in_ok-share.ensures is).of, tt)))
+
+pub returns-clause-may_fail : goal.returns-clause-may_fail
+returns-clause-may_fail g c =
+    let bytes = g.H.HeldFile.bytes in
+    let copy = c.in_ok-share.field-0 in
+    let items = c.in_ok-push.ensures.items ∙ ap (λ (l : List (Table g.row.H.Denot)). l ++ copy ∷ []) c.new-one.ensures.items in
+    IfOk-weaker c.new.result _ _
+    (λ it may fault fails. fails_shared bytes g.H.HeldFile.size g.H.HeldFile.named c.args.table.now copy c.in_ok-share.ensures fault
+    (subst (λ (l : List (Table g.row.H.Denot)). MayFailOn bytes l fault) items (may fault fails)))
+    c.new.ensures.may_fail

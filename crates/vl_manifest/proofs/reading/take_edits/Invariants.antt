@@ -1,5 +1,0 @@
-use Rattle.vl_manifest.proofs.Taking.{SoFar}
-use Rattle.vl_manifest.proofs.reading.take_edits.Given as goal
-
-abbrev pub invariant-loop : goal.invariant-loop
-invariant-loop l = SoFar l.format l.bytes l.counter l.edits.items l.rest

@@ -1,0 +1,213 @@
+use Rattle.vl_script_model.specs.Sequential.{history_of}
+use Rattle.vl_replay.specs.declared.tables.Round.{Round}
+use Rattle.vl_replay.proofs.CarryingJob.{filling_failed, fits_kept, fits_same, fits_taken, has_same, left_under_way, lent_under_way}
+use Rattle.vl_replay.proofs.CarryingJob.{one_lent, reading_failed, refused_under_way, sound_filling, sound_reading, still_lent}
+use Rattle.vl_replay.proofs.CarryingJob.{unlent_tells}
+use Rattle.vl_replay.proofs.CarryingRounds.{ended, filled, is_fresh, unfilled, unlent, unread}
+use Rattle.vl_space.specs.Removing.{Removes}
+use Rattle.vl_replay.proofs.CarryingRemoved.{lent_leaves, unlent_leaves}
+use Rattle.vl_replay.proofs.tables.make_table.Goals as goal
+
+-- ---- it has all of its tables
+
+pub returns-in-Ok-false-clause-rounds : goal.returns-in-Ok-false-clause-rounds
+returns-in-Ok-false-clause-rounds g c s j way =
+    ended g.D.Watched (record { only_now = g.met.D.Disk.only_now; counts_now = g.met.D.Disk.counts_now }) g.D.Writer.Writer
+    g.D.Held.HeldFile.bytes s j
+    c.args.engine.now.disk c.args.engine.now.core c.args.engine.now.merging c.args.job.now c.ready.new.self c.args.reader.now
+    c.ready.new.reader
+    way c.ready.ensures.kept (rw c.in-Ok-false.field-0-test at (c.in-Ok-false.ensures.answers j way.fits way.has))
+
+pub returns-in-Ok-false-clause-lent : goal.returns-in-Ok-false-clause-lent
+returns-in-Ok-false-clause-lent g c lent = (
+  still_lent g.D.Watched g.D.Writer.Writer c.args.engine.now.disk c.args.engine.now.merging c.args.job.now c.ready.new.self
+      c.ready.ensures.kept lent,
+  c.in-Ok-false.ensures.asked.1 c.in-Ok-false.field-0-test,
+)
+
+pub returns-in-Ok-false-clause-under_way : goal.returns-in-Ok-false-clause-under_way
+returns-in-Ok-false-clause-under_way g c lent =
+    lent_under_way g.D.Watched g.D.Writer.Writer c.args.engine.now.disk c.args.engine.now.core.front.halted c.args.engine.now.merging
+    c.ready.new.self
+    (still_lent g.D.Watched g.D.Writer.Writer c.args.engine.now.disk c.args.engine.now.merging c.args.job.now c.ready.new.self
+    c.ready.ensures.kept lent)
+
+-- ---- it couldn't read on
+
+pub returns-in-Err-clause-under_way : goal.returns-in-Err-clause-under_way
+returns-in-Err-clause-under_way g c lent =
+    lent_under_way g.D.Watched g.D.Writer.Writer c.args.engine.now.disk c.args.engine.now.core.front.halted c.args.engine.now.merging
+    c.ready.new.self
+    (still_lent g.D.Watched g.D.Writer.Writer c.args.engine.now.disk c.args.engine.now.merging c.args.job.now c.ready.new.self
+    c.ready.ensures.kept lent)
+
+pub returns-in-Err-clause-rounds : goal.returns-in-Err-clause-rounds
+returns-in-Err-clause-rounds g c s j way =
+    rw c.halt_at.ensures (unread g.D.Watched (record
+    { only_now = g.met.D.Disk.only_now; counts_now = g.met.D.Disk.counts_now }) g.D.Writer.Writer
+    g.D.Held.HeldFile.bytes s j
+    c.args.engine.now.disk c.args.engine.now.core c.args.engine.now.merging c.args.job.now c.ready.new.self c.args.reader.now
+    c.ready.new.reader
+    way c.in-Err.fault
+    (sound_reading g.D.Writer.Writer g.D.Held.HeldFile.bytes c.args.job.now c.args.reader.now.looks j way.has way.fits _ c.in-Err.fault
+    c.in-Err.ensures.cause))
+
+pub returns-in-Err-clause-fault : goal.returns-in-Err-clause-fault
+returns-in-Err-clause-fault g c running by =
+    reading_failed g.D.Reader.Reader.faults g.D.Writer.Writer c.args.reader.now c.ready.new.reader Round _ _ c.in-Err.fault
+    c.in-Err.ensures.cause
+    (rw c.halt_at.ensures at by)
+
+-- ---- it was lent no file
+
+pub returns-in-Err-fresh-clause-rounds : goal.returns-in-Err-fresh-clause-rounds
+returns-in-Err-fresh-clause-rounds g c s j way =
+    rw c.refused.ensures (unlent g.D.Watched (record
+    { only_now = g.met.D.Disk.only_now; counts_now = g.met.D.Disk.counts_now }) g.D.Writer.Writer
+    g.D.Held.HeldFile.bytes s j
+    c.args.engine.now.disk c.fresh.new.self.disk c.args.engine.now.core c.fresh.new.self.core c.args.engine.now.merging
+    c.fresh.new.self.merging
+    c.args.job.now c.ready.new.self c.fresh.new.job c.fresh.new.job c.args.reader.now c.ready.new.reader c.ready.new.reader
+    way c.ready.ensures.kept (c.in-Ok-true.ensures.answers j way.fits way.has).state
+    (c.in-Ok-true.ensures.asked.0 c.in-Ok-true.field-0-test)
+    (fits_kept g.D.Held.HeldFile.bytes c.args.job.now c.ready.new.self c.ready.new.reader.looks c.ready.ensures.kept
+    (c.ready.ensures.fits way.fits))
+    c.fresh.ensures.job c.in-Err-fresh.fail (record {
+      stands = c.in-Err-fresh.ensures.stands (history_of s) s.store.layout;
+      carries = c.in-Err-fresh.ensures.carries (history_of s) s.store.layout;
+      fits = c.in-Err-fresh.ensures.fits (history_of s) s.store.layout;
+      untouched = c.in-Err-fresh.ensures.untouched;
+      files = c.in-Err-fresh.ensures.files;
+      stopped = c.in-Err-fresh.ensures.stopped;
+      core = c.in-Err-fresh.ensures.core;
+      failed = c.in-Err-fresh.ensures.failed;
+      meanwhile = c.in-Err-fresh.ensures.meanwhile;
+      leaves = c.in-Err-fresh.ensures.leaves (history_of s) s.store.layout;
+      within = c.in-Err-fresh.ensures.within;
+    }))
+
+pub returns-in-Err-fresh-clause-under_way : goal.returns-in-Err-fresh-clause-under_way
+returns-in-Err-fresh-clause-under_way g c lent =
+    refused_under_way g.D.Watched g.D.Writer.Writer c.args.engine.now.disk c.fresh.new.self.disk c.fresh.new.self.core.front.halted
+    c.args.engine.now.merging c.fresh.new.self.merging c.args.job.now c.ready.new.self c.fresh.new.job lent c.ready.ensures.kept
+    c.fresh.ensures.job c.in-Err-fresh.ensures.refused
+    (unlent_tells g.D.Watched g.D.Writer.Writer c.args.engine.now.core c.fresh.new.self.core c.args.engine.now.disk
+    c.fresh.new.self.disk c.in-Err-fresh.fail c.in-Err-fresh.ensures.core c.in-Err-fresh.ensures.untouched)
+
+-- ---- the file became a table
+
+pub returns-in-Ok-fill-clause-under_way : goal.returns-in-Ok-fill-clause-under_way
+returns-in-Ok-fill-clause-under_way g c lent =
+    lent_under_way g.D.Watched g.D.Writer.Writer c.fresh.new.self.disk c.fresh.new.self.core.front.halted c.fresh.new.self.merging
+    c.fill.new.self
+    (one_lent g.D.Watched g.D.Writer.Writer c.args.engine.now.disk c.fresh.new.self.disk c.args.engine.now.merging c.fresh.new.self.merging
+    c.args.job.now c.ready.new.self c.fresh.new.job c.fill.new.self c.in-Ok.file lent c.ready.ensures.kept c.fresh.ensures.job
+    c.in-Ok-fill.ensures.takes c.in-Ok.ensures.merging c.in-Ok.ensures.fresh c.in-Ok.ensures.empty c.in-Ok.ensures.untold)
+
+pub returns-in-Ok-fill-clause-rounds : goal.returns-in-Ok-fill-clause-rounds
+returns-in-Ok-fill-clause-rounds g c s j way =
+    let has = (c.in-Ok-true.ensures.answers j way.fits way.has).state in
+    let fits =
+    fits_kept g.D.Held.HeldFile.bytes c.args.job.now c.ready.new.self c.ready.new.reader.looks c.ready.ensures.kept
+    (c.ready.ensures.fits way.fits)
+    in
+    let still = fits_same g.D.Held.HeldFile.bytes c.ready.new.self c.fresh.new.job c.ready.new.reader.looks c.fresh.ensures.job fits in
+    let waits = c.in-Ok-true.ensures.asked.0 c.in-Ok-true.field-0-test in
+    filled g.D.Watched (record { only_now = g.met.D.Disk.only_now; counts_now = g.met.D.Disk.counts_now }) g.D.Writer.Writer
+    g.D.Held.HeldFile.bytes s j
+    c.args.engine.now.disk c.fresh.new.self.disk c.args.engine.now.core c.fresh.new.self.core c.args.engine.now.merging
+    c.fresh.new.self.merging
+    c.args.job.now c.ready.new.self c.fresh.new.job c.fill.new.self c.args.reader.now c.ready.new.reader c.fill.new.reader
+    way c.ready.ensures.kept has waits fits c.fresh.ensures.job c.in-Ok.file (record {
+      stands = c.in-Ok.ensures.stands (history_of s) s.store.layout;
+      carries = c.in-Ok.ensures.carries (history_of s) s.store.layout;
+      fits = c.in-Ok.ensures.fits (history_of s) s.store.layout;
+      untouched = c.in-Ok.ensures.untouched;
+      files = c.in-Ok.ensures.files;
+      stopped = c.in-Ok.ensures.stopped;
+      core = c.in-Ok.ensures.core;
+      failed = c.in-Ok.ensures.failed;
+      meanwhile = c.in-Ok.ensures.meanwhile;
+      leaves = c.in-Ok.ensures.leaves (history_of s) s.store.layout;
+      within = c.in-Ok.ensures.within;
+    })
+    c.in-Ok-fill.ensures.takes
+    (c.in-Ok-fill.ensures.next j still
+    (is_fresh g.D.Watched (record { only_now = g.met.D.Disk.only_now; counts_now = g.met.D.Disk.counts_now }) g.D.Writer.Writer
+    g.D.Held.HeldFile.bytes s j
+    c.args.engine.now.disk c.fresh.new.self.disk c.args.engine.now.core c.fresh.new.self.core c.args.engine.now.merging
+    c.fresh.new.self.merging
+    c.args.job.now c.ready.new.self c.fresh.new.job c.fill.new.self c.args.reader.now c.ready.new.reader c.fill.new.reader
+    way c.ready.ensures.kept has waits fits c.fresh.ensures.job c.in-Ok.file c.in-Ok.ensures.empty)
+    (has_same g.D.Writer.Writer g.D.Held.HeldFile.bytes c.ready.new.self c.fresh.new.job j c.fresh.ensures.job has))
+    (fits_taken g.D.Writer.Writer g.D.Held.HeldFile.bytes c.in-Ok.file c.fresh.new.job c.fill.new.self c.fill.new.reader.looks
+    c.in-Ok-fill.ensures.takes (c.fill.ensures.fits still))
+
+pub returns-in-Ok-fill-clause-lent : goal.returns-in-Ok-fill-clause-lent
+returns-in-Ok-fill-clause-lent g c lent =
+    one_lent g.D.Watched g.D.Writer.Writer c.args.engine.now.disk c.fresh.new.self.disk c.args.engine.now.merging c.fresh.new.self.merging
+    c.args.job.now c.ready.new.self c.fresh.new.job c.fill.new.self c.in-Ok.file lent c.ready.ensures.kept c.fresh.ensures.job
+    c.in-Ok-fill.ensures.takes c.in-Ok.ensures.merging c.in-Ok.ensures.fresh c.in-Ok.ensures.empty c.in-Ok.ensures.untold
+
+-- ---- the file couldn't be filled
+
+pub returns-in-Err-fill-clause-under_way : goal.returns-in-Err-fill-clause-under_way
+returns-in-Err-fill-clause-under_way g c lent =
+    left_under_way g.D.Watched g.D.Writer.Writer c.args.engine.now.disk c.fresh.new.self.disk c.fresh.new.self.core.front.halted
+    c.args.engine.now.merging c.fresh.new.self.merging c.args.job.now c.ready.new.self c.fresh.new.job c.fill.new.self c.in-Ok.file
+    lent c.ready.ensures.kept c.fresh.ensures.job c.in-Err-fill.ensures.refused c.in-Ok.ensures.merging c.in-Ok.ensures.fresh
+    c.in-Ok.ensures.empty c.in-Ok.ensures.untold
+
+pub returns-in-Err-fill-clause-rounds : goal.returns-in-Err-fill-clause-rounds
+returns-in-Err-fill-clause-rounds g c s j way =
+    let has = (c.in-Ok-true.ensures.answers j way.fits way.has).state in
+    let fits =
+    fits_kept g.D.Held.HeldFile.bytes c.args.job.now c.ready.new.self c.ready.new.reader.looks c.ready.ensures.kept
+    (c.ready.ensures.fits way.fits)
+    in
+    let still = fits_same g.D.Held.HeldFile.bytes c.ready.new.self c.fresh.new.job c.ready.new.reader.looks c.fresh.ensures.job fits in
+    rw c.halt_at-in-Err-fill.ensures (unfilled g.D.Watched
+    (record { only_now = g.met.D.Disk.only_now; counts_now = g.met.D.Disk.counts_now })
+    g.D.Writer.Writer g.D.Held.HeldFile.bytes s j
+    c.args.engine.now.disk c.fresh.new.self.disk c.args.engine.now.core c.fresh.new.self.core c.args.engine.now.merging
+    c.fresh.new.self.merging
+    c.args.job.now c.ready.new.self c.fresh.new.job c.fill.new.self c.args.reader.now c.ready.new.reader c.fill.new.reader
+    way c.ready.ensures.kept has (c.in-Ok-true.ensures.asked.0 c.in-Ok-true.field-0-test) fits c.fresh.ensures.job c.in-Ok.file (record {
+      stands = c.in-Ok.ensures.stands (history_of s) s.store.layout;
+      carries = c.in-Ok.ensures.carries (history_of s) s.store.layout;
+      fits = c.in-Ok.ensures.fits (history_of s) s.store.layout;
+      untouched = c.in-Ok.ensures.untouched;
+      files = c.in-Ok.ensures.files;
+      stopped = c.in-Ok.ensures.stopped;
+      core = c.in-Ok.ensures.core;
+      failed = c.in-Ok.ensures.failed;
+      meanwhile = c.in-Ok.ensures.meanwhile;
+      leaves = c.in-Ok.ensures.leaves (history_of s) s.store.layout;
+      within = c.in-Ok.ensures.within;
+    })
+    c.in-Err-fill.fault
+    (sound_filling g.D.Writer.Writer g.D.Held.HeldFile.bytes c.fresh.new.job c.ready.new.reader.looks j
+    (has_same g.D.Writer.Writer g.D.Held.HeldFile.bytes c.ready.new.self c.fresh.new.job j c.fresh.ensures.job has) still _ c.in-Ok.file
+    c.fresh.new.job c.fill.new.self c.in-Err-fill.fault c.in-Err-fill.ensures.cause))
+
+pub returns-in-Err-fill-clause-fault : goal.returns-in-Err-fill-clause-fault
+returns-in-Err-fill-clause-fault g c running by =
+    filling_failed g.D.Reader.Reader.faults g.D.Writer.Writer c.ready.new.reader c.fill.new.reader Round _ _ c.in-Ok.file c.fresh.new.job
+    c.fill.new.self c.in-Err-fill.fault c.in-Err-fill.ensures.cause (rw c.halt_at-in-Err-fill.ensures at by)
+
+-- ---- what the engine keeps of which files can go
+
+pub returns-in-Err-fresh-clause-removes : goal.returns-in-Err-fresh-clause-removes
+returns-in-Err-fresh-clause-removes g c s j way removes =
+    let new = c.fresh.new.self in
+    rw c.refused.ensures (unlent_leaves s.store.layout (history_of s) (Removes new.core new.removing) _ _ _
+    g.D.Writer.Writer c.in-Err-fresh.fail
+    (c.in-Err-fresh.ensures.removes (history_of s) s.store.layout
+    (record { stands = way.serves.stands; opens = way.serves.opens }) (λ running. (way.serves.fits.running running).numbers) removes))
+
+pub returns-in-Ok-fill-clause-removes : goal.returns-in-Ok-fill-clause-removes
+returns-in-Ok-fill-clause-removes g c s j way removes =
+    let new = c.fresh.new.self in
+    lent_leaves s.store.layout (history_of s) (Removes new.core new.removing) _ _ c.in-Ok.file
+    (c.in-Ok.ensures.removes (history_of s) s.store.layout
+    (record { stands = way.serves.stands; opens = way.serves.opens }) (λ running. (way.serves.fits.running running).numbers) removes)

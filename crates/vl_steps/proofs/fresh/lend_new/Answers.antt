@@ -1,0 +1,12 @@
+use Rattle.vl_steps.proofs.LendsNew.{ends_at_create, ends_at_lend, just_made}
+use Rattle.vl_steps.proofs.fresh.lend_new.Goals as goal
+
+pub returns-in_err-create-clause-lends : goal.returns-in_err-create-clause-lends
+returns-in_err-create-clause-lends g c =
+    ends_at_create g.D.Watched _ _ _ _ c.from_residual.result c.from_residual.ensures.0 c.in_err-create.ensures
+
+pub returns-clause-lends : goal.returns-clause-lends
+returns-clause-lends g c = ends_at_lend g.D.Watched _ _ _ _ c.in_ok-create.ensures _ c.lend.result c.lend.ensures.lends
+
+pub lend-requires-clause-just_made : goal.lend-requires-clause-just_made
+lend-requires-clause-just_made g c = just_made _ _ _ c.in_ok-create.ensures.created

@@ -1,5 +1,0 @@
-use Rattle.std.proofs.Common.{◌++◌, ap, sym, List, ℕ}
-use Rattle.vl_table.proofs.reading.Ahead.none.Goals as goal
-
-pub returns : goal.returns
-returns c = λ bytes. (bytes, ap (λ (l : List ℕ). l ++ bytes) (sym c.new.ensures.items))

@@ -1,5 +1,0 @@
-use Rattle.vlstore.proofs.Shopping.{meets}
-use Rattle.vlstore.proofs.shop.shopping.SureSessionSureDiskShop.meet.Goals as goal
-
-pub returns : goal.returns
-returns c = meets c.args.self.now.session c.meet.new.self c.args.note c.meet.ensures
