@@ -2,7 +2,7 @@
 
 ghost use Rattle.std.specs.Prelude.{◌≡◌, ◌≤◌, ◌<◌, ◌+◌, ◌++◌, ◌∷◌, [], drop, OnOk, vec_capacity, vec_len};
 ghost use Rattle.vl_back.specs.Deciding.{MayFlush, MayRotate};
-ghost use Rattle.vl_model.specs.Limits.{max_version_number};
+ghost use Rattle.vl_model.specs.Limits.{max_epoch};
 
 use crate::{Back, Waiting};
 use std::alloc::AllocError;
@@ -14,24 +14,24 @@ impl Back {
         requires { MayFlush self.old }
         ensures state { self.new.state ≡ state }
         ensures waiting { self.new.waiting.items ≡ drop 1 self.old.waiting.items }
-        ensures version { self.new.version_number ≡ self.old.version_number + 1 }
+        ensures version { self.new.epoch ≡ self.old.epoch + 1 }
         ensures manifest { self.new.manifest ≡ self.old.manifest }
         ensures next_log { self.new.next_log ≡ self.old.next_log }
     {
         self.state = state;
         let _ = self.waiting.remove(0);
-        self.version_number += 1;
+        self.epoch += 1;
     }
 
     /// Tables that a merge made were put in the place of its inputs, by a switch behind which the manifest says this.
     pub fn apply_install(&mut self, state: ManifestState)
-        requires { self.old.version_number < max_version_number }
+        requires { self.old.epoch < max_epoch }
         ensures state { self.new.state ≡ state }
-        ensures version { self.new.version_number ≡ self.old.version_number + 1 }
-        ensures others { self.new ≡ record self.old { state = state; version_number = self.new.version_number } }
+        ensures version { self.new.epoch ≡ self.old.epoch + 1 }
+        ensures others { self.new ≡ record self.old { state = state; epoch = self.new.epoch } }
     {
         self.state = state;
-        self.version_number += 1;
+        self.epoch += 1;
     }
 
     /// Takes the memory that a rotation wants here.
@@ -49,12 +49,12 @@ impl Back {
         requires room { vec_len self.old.waiting + 1 ≤ vec_capacity self.old.waiting }
         ensures waiting { self.new.waiting.items ≡ self.old.waiting.items ++ sealed ∷ [] }
         ensures next_log { self.new.next_log ≡ self.old.next_log + 1 }
-        ensures version { self.new.version_number ≡ self.old.version_number + 1 }
+        ensures version { self.new.epoch ≡ self.old.epoch + 1 }
         ensures manifest { self.new.manifest ≡ self.old.manifest }
         ensures state { self.new.state ≡ self.old.state }
     {
         self.waiting.push_reserved(sealed);
         self.next_log += 1;
-        self.version_number += 1;
+        self.epoch += 1;
     }
 }

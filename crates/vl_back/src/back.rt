@@ -9,7 +9,7 @@ pub struct Back {
     /// The least number that a log may still be given.
     pub next_log: u32,
     /// How many steps of this run changed which files are used.
-    pub version_number: u64,
+    pub epoch: u64,
     /// The frozen logs whose memtables wait for their flush, the oldest first.
     pub waiting: Vec<Waiting>,
 }

@@ -1,10 +1,10 @@
 ghost use Rattle.std.specs.Prelude.{◌≡◌, ◌<◌, false, nat_le};
 ghost use Rattle.vl_back.specs.Deciding.{MayFlush, MayRotate, flush_decision, numbers_decision, rotation_decision};
 ghost use Rattle.vl_back.specs.declared.decision.Decision.TheVariants.{Go};
-ghost use Rattle.vl_model.specs.Limits.{max_version_number};
+ghost use Rattle.vl_model.specs.Limits.{max_epoch};
 
 use crate::{Back, Decision};
-use vl_model::{Counter, MAX_FILE_NUMBER, MAX_VERSION_NUMBER};
+use vl_model::{Counter, MAX_FILE_NUMBER, MAX_EPOCH};
 
 impl Back {
     /// What a flush comes to, where nothing has halted.
@@ -29,22 +29,22 @@ impl Back {
         self.decide_by_numbers(self.next_log, Counter::Log)
     }
 
-    /// Whether no version number is left for a step that changes which files are used.
-    pub fn has_no_version(&self) -> bool
-        ensures tells { result ≡ nat_le max_version_number self.now.version_number }
-        ensures left { result ≡ false → self.now.version_number < max_version_number }
+    /// Whether no epoch is left for a step that changes which files are used.
+    pub fn has_no_epoch(&self) -> bool
+        ensures tells { result ≡ nat_le max_epoch self.now.epoch }
+        ensures left { result ≡ false → self.now.epoch < max_epoch }
     {
-        self.version_number >= MAX_VERSION_NUMBER
+        self.epoch >= MAX_EPOCH
     }
 
-    // By the number that the step would give to a file of this kind, and the version number.
+    // By the number that the step would give to a file of this kind, and the epoch.
     fn decide_by_numbers(&self, next: u32, counter: Counter) -> Decision
-        ensures { result ≡ numbers_decision next counter self.now.version_number }
+        ensures { result ≡ numbers_decision next counter self.now.epoch }
     {
         if next > MAX_FILE_NUMBER {
             return Decision::Exhausted(counter);
         }
-        if self.has_no_version() {
+        if self.has_no_epoch() {
             return Decision::Exhausted(Counter::Version);
         }
         Decision::Go

@@ -1,4 +1,4 @@
--- What is kept of which files can go, where a merge or a pass has begun: its version number is pinned.
+-- What is kept of which files can go, where a merge or a pass has begun: its epoch is pinned.
 use Rattle.std.specs.Prelude.{◌≡◌, ℕ, Bool, Option, None, Some, Result, Ok, Err, refl}
 use Rattle.std.proofs.Common.{sym, ap, subst, ◌∙◌, arith}
 use Rattle.vl_engine_laws.specs.Represents.{Fronts}
@@ -23,7 +23,7 @@ module _ {H L : Type 0} (core after : Core H) (h : History) (l : Layout) (is : F
       (subst (λ (r : Removing L). Removes core r l) (sym kept) removes)
 
   -- a merge has begun
-  pub removes_planned : (job : Job) → new ≡ merge_pinned (Some core.back.version_number) old → Removes after new (with_job job l)
+  pub removes_planned : (job : Job) → new ≡ merge_pinned (Some core.back.epoch) old → Removes after new (with_job job l)
   removes_planned job pinned =
       removes_alike l (with_job job l) (record {
         flushed = refl;
@@ -44,7 +44,7 @@ module _ {H L : Type 0} (core after : Core H) (h : History) (l : Layout) (is : F
       })) removes
 
   -- a pass has begun
-  pub removes_picked : (segment : ℕ) → new ≡ pass_pinned (Some core.back.version_number) old → Removes after new (with_pass segment l)
+  pub removes_picked : (segment : ℕ) → new ≡ pass_pinned (Some core.back.epoch) old → Removes after new (with_pass segment l)
   removes_picked segment pinned =
       removes_alike l (with_pass segment l) (record {
         flushed = refl;

@@ -19,7 +19,7 @@ use Rattle.vl_steps.specs.declared.fails.StepFail.{StepFail}
 use Rattle.vl_space.specs.declared.kept.Collecting.{Collecting}
 use Rattle.vl_engine_model.specs.Decides.{Answered, Damaged, Decides, Effects, Failed, NoMemory, Otherwise, Outcome, as_before}
 use Rattle.vl_engine_model.specs.Levels.{in_front}
-use Rattle.vl_engine_model.specs.Ruling.{Exhausted, Halted, Idle, Ruling, StepAnswer, Stepped, halted_at, has_no_number, has_no_version}
+use Rattle.vl_engine_model.specs.Ruling.{Exhausted, Halted, Idle, Ruling, StepAnswer, Stepped, halted_at, has_no_number, has_no_epoch}
 use Rattle.vl_engine_model.specs.Ruling.{is_idle, leaving}
 use Rattle.vl_engine_model.specs.Rulings.Flush.{covered_by, flush_of, flush_ruling, flush_unless, flushed, flushed_table}
 use Rattle.vl_engine_model.specs.Rulings.Rotate.{rotate_of, rotate_ruling, rotate_unless, rotated}
@@ -73,10 +73,10 @@ rotate_by l h P left step = by l.halted
     versioned false = step
 
     numbered : (b : Bool) → P (if b then leaving (Exhausted counters.Log) h l
-        else (if has_no_version l then leaving (Exhausted counters.Version) h l
+        else (if has_no_epoch l then leaving (Exhausted counters.Version) h l
         else record { answer = Stepped l.active.number; history = h; layout = rotated l; calls = 3; gone = [] }))
     numbered true = left (Exhausted counters.Log)
-    numbered false = versioned (has_no_version l)
+    numbered false = versioned (has_no_epoch l)
 
     framed : (fs : List LogFrame) → P (rotate_of fs l h)
     framed [] = left Idle
@@ -101,9 +101,9 @@ flush_by l h P left step = by l.halted refl
     versioned s false done = done
 
     numbered : (s : Segment) (b : Bool) → P (Made s) → P (if b then leaving (Exhausted counters.Table) h l
-        else (if has_no_version l then leaving (Exhausted counters.Version) h l else Made s))
+        else (if has_no_epoch l then leaving (Exhausted counters.Version) h l else Made s))
     numbered s true done = left (Exhausted counters.Table) (λ n e. cc)
-    numbered s false done = versioned s (has_no_version l) done
+    numbered s false done = versioned s (has_no_epoch l) done
 
     waiting : l.halted ≡ None → (o : Option Segment) → oldest l.frozen ≡ o → P (flush_of l h o)
     waiting runs None at = left Idle (λ n e. cc)
@@ -128,7 +128,7 @@ switching l s = record l {
   levels = in_front (flushed_table l s) l.levels;
   covered = covered_by s.frames l.covered;
   next_table = l.next_table + 1;
-  version_number = l.version_number + 1;
+  epoch = l.epoch + 1;
 }
 
 -- The log that a flush takes can be read, as those whose memtables are kept.

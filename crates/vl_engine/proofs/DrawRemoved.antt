@@ -88,7 +88,7 @@ opens_long merging (Some job) number same =
     length_more (m ∷ ns) n = let later = length_more ns n in omega (arith, later)
 
 pin_lent : (number : ℕ) (o : Option OpenJob)
-    → option_map (λ (j : OpenJob). j.pin.version_number) (lent_to number o) ≡ option_map (λ (j : OpenJob). j.pin.version_number) o
+    → option_map (λ (j : OpenJob). j.pin.epoch) (lent_to number o) ≡ option_map (λ (j : OpenJob). j.pin.epoch) o
 pin_lent number None = refl
 pin_lent number (Some job) = refl
 

@@ -361,11 +361,11 @@ module _ {D W H V K : Type 0} (g : Ghosts D) {s : Writers W} (disk : D) (core : 
       uses logs None is = is
       uses logs (Some in_use) is = record { tables = is.tables; logs = is.logs }
 
-      both_aged : (rs : List Retired) (ns : List ℕ) → AllByRecursion (λ (r : Retired). r.version_number ≤ l.version_number) rs
-          → AllByRecursion (λ (r : Retired). r.version_number ≤ l.version_number) (rs ++ loose ns)
+      both_aged : (rs : List Retired) (ns : List ℕ) → AllByRecursion (λ (r : Retired). r.epoch ≤ l.epoch) rs
+          → AllByRecursion (λ (r : Retired). r.epoch ≤ l.epoch) (rs ++ loose ns)
       both_aged [] ns all = zeros ns
         where
-          zeros : (ms : List ℕ) → AllByRecursion (λ (r : Retired). r.version_number ≤ l.version_number) (loose ms)
+          zeros : (ms : List ℕ) → AllByRecursion (λ (r : Retired). r.epoch ≤ l.epoch) (loose ms)
           zeros [] = tt
           zeros (m ∷ ms) = (omega arith, zeros ms)
       both_aged (r ∷ rs) ns all = (all.0, both_aged rs ns all.1)

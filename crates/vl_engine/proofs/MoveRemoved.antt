@@ -13,7 +13,7 @@ use Rattle.vl_space.specs.declared.kept.Removing.{Removing}
 use Rattle.vl_engine_model.specs.Decides.{Decides, Effects, Outcome, as_before}
 use Rattle.vl_engine_model.specs.Jobs.{lent_numbers}
 use Rattle.vl_engine_model.specs.Relocation.{Candidate, Pass, moved_of}
-use Rattle.vl_engine_model.specs.Ruling.{Ruling, halted_at, has_no_version, leaving}
+use Rattle.vl_engine_model.specs.Ruling.{Ruling, halted_at, has_no_epoch, leaving}
 use Rattle.vl_engine_model.specs.Rulings.Relocate.{Exhausted, Full, MoveAnswer, Moves, moves_at, relocate_of, relocate_ruling, relocate_unless}
 use Rattle.vl_engine_model.specs.Rulings.Relocate.{relocated, with_moves}
 use Rattle.vl_engine_model.specs.Sources.{sources}
@@ -34,7 +34,7 @@ use Rattle.vl_pins.specs.Pins.{ArePinsOf}
 module _ (S : Layout → Type 0) (l : Layout) (h : History) (kept : S l) (done : (moved : List Moved) → S (relocated l moved)) where
   by_moved : (moved : List Moved) → S (relocate_of l h moved).layout
   by_moved [] = kept
-  by_moved (m ∷ ms) = by (has_no_version l) (nat_le (l.active.length + frame_length l.active.format (Relocated (m ∷ ms))) l.room)
+  by_moved (m ∷ ms) = by (has_no_epoch l) (nat_le (l.active.length + frame_length l.active.format (Relocated (m ∷ ms))) l.room)
     where
       by : (none fits : Bool) → S (if none then leaving (Exhausted counter.Version) h l
           else (if fits
@@ -58,7 +58,7 @@ lent_kept number moved None = omega arith
 lent_kept number moved (Some job) = omega arith
 
 pin_kept : (number : ℕ) (moved : List Moved) (o : Option OpenJob)
-    → option_map (λ (j : OpenJob). j.pin.version_number) (with_moves number moved o) ≡ option_map (λ (j : OpenJob). j.pin.version_number) o
+    → option_map (λ (j : OpenJob). j.pin.epoch) (with_moves number moved o) ≡ option_map (λ (j : OpenJob). j.pin.epoch) o
 pin_kept number moved None = refl
 pin_kept number moved (Some job) = refl
 
@@ -78,10 +78,10 @@ module _ {H L : Type 0} (core after : Core H) (h : History) (l : Layout) (old ne
         retired = refl;
         active = refl;
         later = omega arith;
-        lent = lent_kept (l.version_number + 1) moved l.job;
+        lent = lent_kept (l.epoch + 1) moved l.job;
         running = λ e. e;
       }) core after logs old new (ap (λ (r : Removing L). r.stock) same)
-      (pins_alike new.pins l (relocated l moved) refl (pin_kept (l.version_number + 1) moved l.job) refl (omega arith)
+      (pins_alike new.pins l (relocated l moved) refl (pin_kept (l.epoch + 1) moved l.job) refl (omega arith)
       (subst (λ (r : Removing L). ArePinsOf r.pins l) (sym same) removes.pins)) removes
 
   -- So it is whatever the call came to.

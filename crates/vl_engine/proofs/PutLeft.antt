@@ -190,7 +190,7 @@ module _ {D W H R K : Type 0} (g : Ghosts D) {s : Writers W} (disk : D) (core : 
   pub put_into : (before after : Core H) (added dropped : List ℕ) (head version tables counted : ℕ) (live : List (ℕ × ℕ))
       (kept : Option Tallied) (old now : Stock (Lent W s)) → added ≡ made_numbers
       → dropped ≡ map number_of (filter (is_input (map number_of job.inputs.tables.items)) (tables_of before.version.behind.levels))
-      → version ≡ before.back.version_number + 1 → head ≡ head_in after
+      → version ≡ before.back.epoch + 1 → head ≡ head_in after
       → ((n : ℕ) → is_idle_in head kept n ≡ is_idle_log head live n) → tables ≡ length added → counted ≡ length (lent_in merging)
       → IsReadied before old readied tables counted
       → BecomesBy (switching version added dropped (is_idle_log head live)) mid now → HoldsNeeded before after kept
@@ -204,12 +204,12 @@ module _ {D W H R K : Type 0} (g : Ghosts D) {s : Writers W} (disk : D) (core : 
         left = subst (λ (fs : List (Lent W s)). LeavesFiles fs readied mid) files_are left;
         switched = λ (k : Kept (Lent W s)) has_it. subst (Has now)
             (ap (λ v. switching v added dropped (is_idle_log head live) k) version_is
-            ∙ ap (λ ns. switching (before.back.version_number + 1) ns dropped (is_idle_log head live) k) added_is
-            ∙ ap (λ ns. switching (before.back.version_number + 1) made_numbers ns (is_idle_log head live) k) dropped_is
-            ∙ ap (λ (i : ℕ → Bool). switching (before.back.version_number + 1) made_numbers
+            ∙ ap (λ ns. switching (before.back.epoch + 1) ns dropped (is_idle_log head live) k) added_is
+            ∙ ap (λ ns. switching (before.back.epoch + 1) made_numbers ns (is_idle_log head live) k) dropped_is
+            ∙ ap (λ (i : ℕ → Bool). switching (before.back.epoch + 1) made_numbers
             (map number_of (filter (is_input (map number_of job.inputs.tables.items)) (tables_of before.version.behind.levels))) i k)
             (λ j n. sym (idle n) j)
-            ∙ ap (λ m. switching (before.back.version_number + 1) made_numbers
+            ∙ ap (λ m. switching (before.back.epoch + 1) made_numbers
             (map number_of (filter (is_input (map number_of job.inputs.tables.items)) (tables_of before.version.behind.levels)))
             (is_idle_in m kept) k) head_is)
             (switched k has_it);

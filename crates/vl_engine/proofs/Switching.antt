@@ -35,7 +35,7 @@ use Rattle.vl_space.specs.declared.kept.Collecting.{Collecting}
 use Rattle.vl_engine_model.specs.Decides.{Answered, Damaged, Decides, Effects, Failed, NoMemory}
 use Rattle.vl_engine_model.specs.Jobs.{Made, tables_made}
 use Rattle.vl_engine_model.specs.Levels.{in_front, is_among}
-use Rattle.vl_engine_model.specs.Ruling.{Ruling, StepAnswer, Stepped, halted_at, has_no_version, is_idle, leaving}
+use Rattle.vl_engine_model.specs.Ruling.{Ruling, StepAnswer, Stepped, halted_at, has_no_epoch, is_idle, leaving}
 use Rattle.vl_engine_model.specs.Rulings.Flush.{flush_ruling, flushed, flushed_table}
 use Rattle.vl_engine_model.specs.Rulings.Install as install
 use Rattle.vl_engine_model.specs.Rulings.Install.{InstallAnswer, Installed, install_checked, install_ruling, install_unless, installed}
@@ -127,7 +127,7 @@ install_by l h job made P left put = by l.halted
     versioned false = put
 
     checked : (o : Option Named) → P (install_checked l h job made o)
-    checked None = versioned (has_no_version l)
+    checked None = versioned (has_no_epoch l)
     checked (Some named) = left (install.Raced named.0 named.1) (λ e. cc)
 
     by : (o : Option FileName) → P (install_unless o l h job made)

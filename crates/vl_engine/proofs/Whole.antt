@@ -40,7 +40,7 @@ use Rattle.vl_engine_model.specs.Decides.{Answered, Damaged, Decides, Effects, F
 use Rattle.vl_engine_model.specs.Jobs.{AreDistinct, AreLent, Made, nothing_made}
 use Rattle.vl_engine_model.specs.Levels.{due_from, inputs_at}
 use Rattle.vl_engine_model.specs.Merging.{merged_entries, outputs}
-use Rattle.vl_engine_model.specs.Ruling.{Ruling, halted_at, has_no_number, has_no_version, leaving, pin_of}
+use Rattle.vl_engine_model.specs.Ruling.{Ruling, halted_at, has_no_number, has_no_epoch, leaving, pin_of}
 use Rattle.vl_engine_model.specs.Rulings.Abandon.{abandon_ruling}
 use Rattle.vl_engine_model.specs.Rulings.Fresh as fresh
 use Rattle.vl_engine_model.specs.Rulings.Fresh.{FreshAnswer, drawn, fresh_ruling, fresh_unless, lent_to}
@@ -269,7 +269,7 @@ install_by l h job made P left put = by l.halted
     versioned false = put
 
     checked : (o : Option Named) → P (install_checked l h job made o)
-    checked None = versioned (has_no_version l)
+    checked None = versioned (has_no_epoch l)
     checked (Some named) = left (install.Raced named.0 named.1)
 
     by : (o : Option FileName) → P (install_unless o l h job made)

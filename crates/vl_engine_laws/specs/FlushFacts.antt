@@ -89,7 +89,7 @@ pub record IsNextBack (before after : Back) (staged : StagedFlush) : Type 0 wher
   pub state : after.state ≡ staged.state
   pub next_log : after.next_log ≡ before.next_log
   pub waiting : after.waiting.items ≡ drop 1 before.waiting.items
-  pub version : after.version_number ≡ before.version_number + 1
+  pub version : after.epoch ≡ before.epoch + 1
 
 -- ---- what it came to
 
@@ -122,6 +122,6 @@ pub record IsTableUnmade {D H : Type 0} (g : Ghosts D) (old new : D) (before aft
   pub writes : WritesFlush g before staged old new
   pub stops : StopsFlushing before.back.state.next_table before.back.manifest.number (g.calls old) (g.calls new) name
   pub front : after.front ≡ record before.front { halted = Some name }
-  pub version_number : after.back.version_number ≡ before.back.version_number
+  pub epoch : after.back.epoch ≡ before.back.epoch
   pub state : after.back.state ≡ before.back.state
   pub version : after.version ≡ before.version

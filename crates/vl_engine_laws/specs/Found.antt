@@ -51,7 +51,7 @@ pub record IsBackAtStart {read : Image} (found : Finds read) (back : Back) : Typ
   pub number : back.manifest.number ≡ found.greatest.manifest + 1
   pub long : IsAsLong back.state back.manifest
   pub waiting : AreWaiting found.opening.state.covered back.waiting.items found.opening.logs
-  pub version_number : back.version_number ≡ 0
+  pub epoch : back.epoch ≡ 0
 
 -- ---- its tables
 

@@ -74,7 +74,7 @@ pub record IsNextBack {H : Type 0} (before : Core H) (after : Back) (versions : 
   pub state : after.state ≡ record before.back.state { keep = versions; since = next_since before versions }
   pub next_log : after.next_log ≡ before.back.next_log
   pub waiting : after.waiting.items ≡ before.back.waiting.items
-  pub version_number : after.version_number ≡ before.back.version_number
+  pub epoch : after.epoch ≡ before.back.epoch
 
 -- so many are kept from now on
 pub record AreKept {D H : Type 0} (g : Ghosts D) (old new : D) (before after : Core H) (versions : ℕ) : Type 0 where
@@ -96,5 +96,5 @@ pub record AreNotKept {D H : Type 0} (g : Ghosts D) (old new : D) (before after 
   pub stops : StopsKeeping before.back.manifest.number (g.calls old) (g.calls new) name
   pub front : after.front ≡ record before.front { halted = Some name }
   pub state : after.back.state ≡ before.back.state
-  pub version_number : after.back.version_number ≡ before.back.version_number
+  pub epoch : after.back.epoch ≡ before.back.epoch
   pub version : after.version ≡ before.version

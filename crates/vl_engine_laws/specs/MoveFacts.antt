@@ -20,7 +20,7 @@ use Rattle.vl_engine_model.specs.Shown.{IsThere}
 use Rattle.vl_model.specs.Entries.{in_order}
 use Rattle.vl_model.specs.Formats.{log_format}
 use Rattle.vl_model.specs.Frames.{frame_length}
-use Rattle.vl_model.specs.Limits.{max_version_number}
+use Rattle.vl_model.specs.Limits.{max_epoch}
 use Rattle.vl_model.specs.declared.entry.Entry.{Entry}
 use Rattle.vl_model.specs.declared.log_frame.LogFrame.TheVariants.{Relocated}
 use Rattle.vl_model.specs.declared.log_frame.Moved.{Moved}
@@ -43,11 +43,11 @@ move_entries front moved = frame_entries log_format front.log.number front.log.l
 abbrev pub move_length : List Moved → ℕ
 move_length moved = frame_length log_format (Relocated moved)
 
--- Nothing stands against moving them: the engine isn't halted, there are some, a version number is left and the log has room.
+-- Nothing stands against moving them: the engine isn't halted, there are some, an epoch is left and the log has room.
 pub record CanMove {H : Type 0} (core : Core H) (moved : List Moved) : Type 0 where
   pub running : core.front.halted ≡ None
   pub some : 1 ≤ length moved
-  pub left : core.back.version_number < max_version_number
+  pub left : core.back.epoch < max_epoch
   pub fits : core.front.log.length + move_length moved ≤ core.front.room
 
 -- ---- the disk
@@ -79,7 +79,7 @@ pub record HasMoved {D H : Type 0} (g : Ghosts D) (old new : D) (before after : 
   }
   pub behind : after.version.behind ≡ before.version.behind
   pub more : after.version.active.entries ≡ in_order (move_entries before.front moved ++ before.version.active.entries)
-  pub back : after.back ≡ record before.back { version_number = before.back.version_number + 1 }
+  pub back : after.back ≡ record before.back { epoch = before.back.epoch + 1 }
 
 -- writing them failed at the active log, which halts
 pub record HasFailedToMove {D H : Type 0} (g : Ghosts D) (old new : D) (before after : Core H) (moved : List Moved)

@@ -54,7 +54,7 @@ pub record Fronts {H : Type 0} (core : Core H) (h : History) (l : Layout) : Type
   pub room : core.front.room ≡ l.room
   pub roomy : l.room ≤ max_room
   pub halted : option_map file_of core.front.halted ≡ l.halted
-  pub version : core.back.version_number ≡ l.version_number
+  pub version : core.back.epoch ≡ l.epoch
   -- how many of the newest versions of a key are kept, and since when
   pub keep : core.back.state.keep ≡ l.keep
   pub since : core.back.state.since ≡ l.since

@@ -17,7 +17,7 @@ use Rattle.vl_engine_laws.specs.Pointed.{bytes_of_log}
 use Rattle.vl_engine_laws.specs.declared.kept.Core.{Core}
 use Rattle.vl_engine_model.specs.declared.layout.Layout.{Layout}
 use Rattle.vl_model.specs.Formats.{log_format}
-use Rattle.vl_model.specs.Limits.{max_file_number, max_version_number}
+use Rattle.vl_model.specs.Limits.{max_file_number, max_epoch}
 use Rattle.vl_model.specs.declared.counter.Counter.{Counter}
 use Rattle.vl_model.specs.declared.counter.Counter.TheVariants as counters
 use Rattle.vl_seglog.specs.Frames.{log_header}
@@ -39,7 +39,7 @@ IsUsedUp back counters.Commit = ⊥
 IsUsedUp back counters.Log = max_file_number < back.next_log
 IsUsedUp back counters.Table = ⊥
 IsUsedUp back counters.Manifest = ⊥
-IsUsedUp back counters.Version = (back.next_log ≤ max_file_number) × (max_version_number ≤ back.version_number)
+IsUsedUp back counters.Version = (back.next_log ≤ max_file_number) × (max_epoch ≤ back.epoch)
 
 -- ---- memory
 
@@ -61,7 +61,7 @@ pub record IsSameBack (before after : Back) : Type 0 where
   pub manifest : after.manifest ≡ before.manifest
   pub state : after.state ≡ before.state
   pub next_log : after.next_log ≡ before.next_log
-  pub version_number : after.version_number ≡ before.version_number
+  pub epoch : after.epoch ≡ before.epoch
   pub waiting : after.waiting.items ≡ before.waiting.items
 
 -- and so is all else
@@ -75,7 +75,7 @@ pub record IsNextBack {H : Type 0} (before : Core H) (after : Back) : Type 0 whe
   pub manifest : after.manifest ≡ before.back.manifest
   pub state : after.state ≡ before.back.state
   pub next_log : after.next_log ≡ before.back.next_log + 1
-  pub version_number : after.version_number ≡ before.back.version_number + 1
+  pub epoch : after.epoch ≡ before.back.epoch + 1
   pub waiting : after.waiting.items
       ≡ before.back.waiting.items ++ record { number = before.front.log.number; covered = before.front.oracle.last } ∷ []
 

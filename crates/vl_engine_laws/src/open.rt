@@ -10,7 +10,7 @@ use vl_model::Key;
 pub struct OpenMerge {
     /// The numbers of the tables whose files were lent to it, the earliest first.
     pub lent: Vec<u32>,
-    /// The keys that were relocated since it was planned, the latest first, each with the version number that this made.
+    /// The keys that were relocated since it was planned, the latest first, each with the epoch that this made.
     pub moved: Vec<(Key, u64)>,
 }
 

@@ -1,7 +1,7 @@
 -- What a call of an engine answers and what it leaves, and the changes that several calls share.
 use Rattle.std.specs.Prelude.{ℕ, ◌+◌, ◌==◌, Bool, not, ◌&&◌, nat_lt, List, [], ◌∷◌, ◌++◌, map, Some}
 use Rattle.std.specs.List.{filter}
-use Rattle.vl_model.specs.Limits.{max_file_number, max_version_number}
+use Rattle.vl_model.specs.Limits.{max_file_number, max_epoch}
 use Rattle.vl_model.specs.History.{History}
 use Rattle.vl_model.specs.declared.counter.Counter.{Counter}
 use Rattle.vl_model.specs.declared.log_frame.LogFrame.{LogFrame}
@@ -60,7 +60,7 @@ logged f l =
 
 -- a pin of the version of this moment
 abbrev pub pin_of : Layout → Pin
-pin_of l = record { version_number = l.version_number; needs = needed l }
+pin_of l = record { epoch = l.epoch; needs = needed l }
 
 -- ---- retirement
 
@@ -69,15 +69,15 @@ abbrev pub is_idle : Layout → Segment → Bool
 is_idle l s = nat_lt s.number (head l) && (live_bytes (tables l) s.number == 0)
 
 abbrev pub retired_at : ℕ → FileName → Retired
-retired_at number file = record { file = file; version_number = number }
+retired_at number file = record { file = file; epoch = number }
 
--- Retires at the version number that a switch has made the tables that it dropped, and each segment
+-- Retires at the epoch that a switch has made the tables that it dropped, and each segment
 -- that is below head and has nothing live, the least first.
 abbrev pub switched : List Table → Layout → Layout
 switched dropped l = record l {
   flushed = filter (λ (s : Segment). not (is_idle l s)) l.flushed;
   retired = l.retired
-      ++ map (retired_at l.version_number) (map table_of dropped ++ map log_of (rising (filter (is_idle l) l.flushed)));
+      ++ map (retired_at l.epoch) (map table_of dropped ++ map log_of (rising (filter (is_idle l) l.flushed)));
 }
 
 -- ---- numbers
@@ -86,6 +86,6 @@ switched dropped l = record l {
 abbrev pub has_no_number : ℕ → ℕ → Bool
 has_no_number next count = nat_lt (max_file_number + 1) (next + count)
 
--- no version number is left
-abbrev pub has_no_version : Layout → Bool
-has_no_version l = nat_lt max_version_number (l.version_number + 1)
+-- no epoch is left
+abbrev pub has_no_epoch : Layout → Bool
+has_no_epoch l = nat_lt max_epoch (l.epoch + 1)

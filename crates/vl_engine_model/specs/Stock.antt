@@ -66,10 +66,10 @@ IsUnneeded needs r = is_in r.file needs ≡ false
 
 -- the pin is below the number that the file's retirement made, or doesn't need the file
 abbrev pub IsOff : Pin → Retired → Type 0
-IsOff p r = (p.version_number < r.version_number) ⊎ (is_in r.file p.needs ≡ false)
+IsOff p r = (p.epoch < r.epoch) ⊎ (is_in r.file p.needs ≡ false)
 
 pub record IsPinned (version : ℕ) (retired : List Retired) (p : Pin) : Type 0 where
-  pub old : p.version_number ≤ version
+  pub old : p.epoch ≤ version
   pub off : AllByRecursion (IsOff p) retired
 
 abbrev pub IsFalling : List Segment → Type 0
@@ -81,7 +81,7 @@ pub record IsStocked (l : Layout) : Type 0 where
   pub unneeded : AllByRecursion (IsUnneeded (needed l)) l.retired
   pub retired_drawn : AllByRecursion (λ (r : Retired). IsDrawn l.next_log l.next_table r.file) l.retired
   -- a pin at or above its retirement doesn't need it either
-  pub pinned : AllByRecursion (IsPinned l.version_number l.retired) (pins l)
+  pub pinned : AllByRecursion (IsPinned l.epoch l.retired) (pins l)
   pub tables_drawn : AllByRecursion (λ (t : Table). t.number < l.next_table) (tables l)
   pub logs_drawn : AllByRecursion (λ (s : Segment). s.number < l.next_log) (l.active ∷ l.frozen)
   pub flushed_drawn : AllByRecursion (λ (s : Segment). s.number < l.next_log) l.flushed

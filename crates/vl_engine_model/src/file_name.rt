@@ -6,9 +6,9 @@ pub enum FileName {
     Manifest(u32),
 }
 
-/// A file that no later version needs, and the version number that its retirement made.
+/// A file that no later version needs, and the epoch that its retirement made.
 #[derive(Drop)]
 pub struct Retired {
     pub file: FileName,
-    pub version_number: u64,
+    pub epoch: u64,
 }

@@ -24,7 +24,7 @@ pub struct Job {
 }
 
 /// A job that is open; each key that was relocated since it began, the latest first, with the
-/// version number that this made; and the numbers of the tables that were drawn for it, the
+/// epoch that this made; and the numbers of the tables that were drawn for it, the
 /// earliest first.
 #[derive(Drop)]
 pub struct OpenJob {

@@ -20,7 +20,7 @@ pub struct Layout {
     pub next_log: u32,
     pub next_table: u32,
     /// How many steps of this run changed which files are used.
-    pub version_number: u64,
+    pub epoch: u64,
     /// The longest that a log may get.
     pub room: u64,
     /// How many of the newest versions of a key are kept, and the last number when that was raised last.

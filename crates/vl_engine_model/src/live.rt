@@ -4,7 +4,7 @@ use std::collections::LinkedList;
 /// Where something began, and the files that it needs for as long as it lives.
 #[derive(Drop)]
 pub struct Pin {
-    pub version_number: u64,
+    pub epoch: u64,
     pub needs: LinkedList<FileName>,
 }
 

@@ -153,7 +153,7 @@ pub fn an_open_job_stays_open_well()
         → oldest l.frozen ≡ Some s → l.levels ≡ level ∷ deeper → IsOpenWell l h job moved
         → IsOpenWell (flushed l s) h job moved }
     ensures relocate { (l : Layout) (h : History) (job : Job) (moved : List Named) (records : List Moved) → IsOpenWell l h job moved
-        → IsOpenWell (relocated l records) h job (moves_at (l.version_number + 1) records ++ moved) }
+        → IsOpenWell (relocated l records) h job (moves_at (l.epoch + 1) records ++ moved) }
     ensures fresh { (l : Layout) (h : History) (job : Job) (moved : List Named)
         → IsOpenWell l h job moved → IsOpenWell (drawn l) h job moved }
     ensures pick { (l : Layout) (h : History) (job : Job) (moved : List Named) (segment : ℕ)

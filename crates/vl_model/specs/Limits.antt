@@ -53,9 +53,9 @@ max_commit_number = 2 ^ 63 - 2
 abbrev pub max_file_number : ℕ
 max_file_number = 4294967294
 
--- the greatest version number
-abbrev pub max_version_number : ℕ
-max_version_number = 2 ^ 63 - 2
+-- the greatest epoch
+abbrev pub max_epoch : ℕ
+max_epoch = 2 ^ 63 - 2
 
 -- how many sessions one store may have; there is at least one
 abbrev pub max_sessions : ℕ

@@ -14,14 +14,14 @@ ghost use Rattle.vl_model.specs.declared.entry.Entry.{Entry};
 ghost use Rattle.vl_model.specs.Limits.{max_key_bytes, max_value_bytes, max_inline_bytes, max_transaction_keys};
 ghost use Rattle.vl_model.specs.Limits.{max_transaction_bytes, max_live, min_room, max_room, max_level};
 ghost use Rattle.vl_model.specs.Limits.{max_batch_records, max_batch_bytes, max_commit_number, max_file_number};
-ghost use Rattle.vl_model.specs.Limits.{max_version_number, max_sessions};
+ghost use Rattle.vl_model.specs.Limits.{max_epoch, max_sessions};
 ghost use Rattle.vl_model.specs.declared.formats.TheConstants.{LOG_FORMAT, MANIFEST_FORMAT, TABLE_FORMAT};
 ghost use Rattle.vl_model.specs.declared.limits.TheConstants.{MAX_KEY_BYTES, MAX_VALUE_BYTES};
 ghost use Rattle.vl_model.specs.declared.limits.TheConstants.{MAX_VALUE_BYTES_BEFORE_TAGS, MAX_INLINE_BYTES};
 ghost use Rattle.vl_model.specs.declared.limits.TheConstants.{MAX_TRANSACTION_KEYS, MAX_TRANSACTION_BYTES, MAX_LIVE};
 ghost use Rattle.vl_model.specs.declared.limits.TheConstants.{MIN_ROOM, MAX_ROOM, MAX_LEVEL, MAX_BATCH_RECORDS};
 ghost use Rattle.vl_model.specs.declared.limits.TheConstants.{MAX_BATCH_BYTES, MAX_COMMIT_NUMBER, MAX_FILE_NUMBER};
-ghost use Rattle.vl_model.specs.declared.limits.TheConstants.{MAX_VERSION_NUMBER, MAX_SESSIONS};
+ghost use Rattle.vl_model.specs.declared.limits.TheConstants.{MAX_EPOCH, MAX_SESSIONS};
 ghost use Rattle.vl_model.specs.History.{standing_at, History, past_value, Extends, last_naming, value_at};
 ghost use Rattle.vl_model.specs.History.{contents_at, last_number, with_commit, value_left};
 
@@ -113,6 +113,6 @@ pub fn constants_are_the_limits()
     ensures batch { (MAX_BATCH_RECORDS ≡ max_batch_records) × (MAX_BATCH_BYTES ≡ max_batch_bytes) }
     ensures commit { MAX_COMMIT_NUMBER ≡ max_commit_number }
     ensures file { MAX_FILE_NUMBER ≡ max_file_number }
-    ensures version { MAX_VERSION_NUMBER ≡ max_version_number }
+    ensures version { MAX_EPOCH ≡ max_epoch }
     ensures sessions { MAX_SESSIONS ≡ max_sessions }
 {}

@@ -42,8 +42,8 @@ pub const MAX_COMMIT_NUMBER: u64 = (1 << 63) - 2;
 /// The greatest number that a log, a table or a manifest may have. The first has 1.
 pub const MAX_FILE_NUMBER: u32 = 4_294_967_294;
 
-/// The greatest version number.
-pub const MAX_VERSION_NUMBER: u64 = (1 << 63) - 2;
+/// The greatest epoch.
+pub const MAX_EPOCH: u64 = (1 << 63) - 2;
 
 /// How many sessions one store may have. There is at least one.
 pub const MAX_SESSIONS: u32 = 64;

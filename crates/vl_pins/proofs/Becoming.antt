@@ -39,13 +39,13 @@ module _ {L : Type 0} (old new : Stock L) (u v : InUse) (was : old.in_use ≡ So
       }
 
 -- where a file was in use it is put behind the others, and else it isn't
-pub put_one : {L : Type 0} (was : Bool) (version : ℕ) (name : Name) (trash : List (RetiredFile L)) → was ≡ true
-    → put_if was version name trash ≡ trash ++ gone_at version name ∷ []
-put_one was version name trash is = ap (λ (b : Bool). cond b (trash ++ gone_at version name ∷ []) trash) is
+pub put_one : {L : Type 0} (was : Bool) (epoch : ℕ) (name : Name) (trash : List (RetiredFile L)) → was ≡ true
+    → put_if was epoch name trash ≡ trash ++ gone_at epoch name ∷ []
+put_one was epoch name trash is = ap (λ (b : Bool). cond b (trash ++ gone_at epoch name ∷ []) trash) is
 
-pub put_none : {L : Type 0} (was : Bool) (version : ℕ) (name : Name) (trash : List (RetiredFile L)) → was ≡ false
-    → put_if was version name trash ≡ trash
-put_none was version name trash is = ap (λ (b : Bool). cond b (trash ++ gone_at version name ∷ []) trash) is
+pub put_none : {L : Type 0} (was : Bool) (epoch : ℕ) (name : Name) (trash : List (RetiredFile L)) → was ≡ false
+    → put_if was epoch name trash ≡ trash
+put_none was epoch name trash is = ap (λ (b : Bool). cond b (trash ++ gone_at epoch name ∷ []) trash) is
 
 -- ---- where the same files stay in use
 

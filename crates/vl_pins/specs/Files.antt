@@ -49,14 +49,14 @@ pub record HasRoomIn (in_use : Option InUse) (tables others all : ℕ) : Type 0 
 module _ {L : Type 0} where
   -- a retired file as a layout has it
   abbrev pub retired_of : RetiredFile L → Retired
-  retired_of file = retired_at file.version (file_of file.name)
+  retired_of file = retired_at file.epoch (file_of file.name)
 
-  -- a file that is retired by a step that made this version number, and one that was lent and is left
+  -- a file that is retired by a step that made this epoch, and one that was lent and is left
   abbrev pub gone_at : ℕ → Name → RetiredFile L
-  gone_at version name = record { name = name; version = version; lent = None }
+  gone_at epoch name = record { name = name; epoch = epoch; lent = None }
 
   abbrev pub left_at : ℕ → L → RetiredFile L
-  left_at table lent = record { name = names.Table table; version = 0; lent = Some lent }
+  left_at table lent = record { name = names.Table table; epoch = 0; lent = Some lent }
 
   abbrev pub with_tables : List ℕ → Kept L → Kept L
   with_tables ns kept = record kept { tables = kept.tables ++ ns }
@@ -66,24 +66,24 @@ module _ {L : Type 0} where
 
   -- A file is put behind the others that wait, if it was in use.
   abbrev pub put_if : Bool → ℕ → Name → List (RetiredFile L) → List (RetiredFile L)
-  put_if was version name trash = if was then trash ++ gone_at version name ∷ [] else trash
+  put_if was epoch name trash = if was then trash ++ gone_at epoch name ∷ [] else trash
 
-  abbrev pub table_retired : (version n : ℕ) → Kept L → Kept L
-  table_retired version n kept = record kept
-      { tables = but n kept.tables; trash = put_if (has n kept.tables) version (names.Table n) kept.trash }
+  abbrev pub table_retired : (epoch n : ℕ) → Kept L → Kept L
+  table_retired epoch n kept = record kept
+      { tables = but n kept.tables; trash = put_if (has n kept.tables) epoch (names.Table n) kept.trash }
 
-  abbrev pub log_retired : (version n : ℕ) → Kept L → Kept L
-  log_retired version n kept = record kept
-      { logs = but n kept.logs; trash = put_if (has n kept.logs) version (names.Log n) kept.trash }
+  abbrev pub log_retired : (epoch n : ℕ) → Kept L → Kept L
+  log_retired epoch n kept = record kept
+      { logs = but n kept.logs; trash = put_if (has n kept.logs) epoch (names.Log n) kept.trash }
 
   -- so it is with several, one after the other
   abbrev pub tables_retired : ℕ → List ℕ → Kept L → Kept L
-  tables_retired version [] kept = kept
-  tables_retired version (n ∷ ns) kept = tables_retired version ns (table_retired version n kept)
+  tables_retired epoch [] kept = kept
+  tables_retired epoch (n ∷ ns) kept = tables_retired epoch ns (table_retired epoch n kept)
 
   abbrev pub logs_retired : ℕ → List ℕ → Kept L → Kept L
-  logs_retired version [] kept = kept
-  logs_retired version (n ∷ ns) kept = logs_retired version ns (log_retired version n kept)
+  logs_retired epoch [] kept = kept
+  logs_retired epoch (n ∷ ns) kept = logs_retired epoch ns (log_retired epoch n kept)
 
   -- ---- where they are kept
 
@@ -114,7 +114,7 @@ module _ {L : Type 0} where
 
   -- it was retired at this number or below it
   abbrev pub is_up_to : ℕ → RetiredFile L → Bool
-  is_up_to bound file = nat_le file.version bound
+  is_up_to bound file = nat_le file.epoch bound
 
   -- The first of which this is so is taken out of those that wait.
   pub record IsTaken (bound : ℕ) (old new : List (RetiredFile L)) (file : RetiredFile L) : Type 0 where

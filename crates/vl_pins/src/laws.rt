@@ -11,22 +11,22 @@ ghost use Rattle.vl_oracle.specs.LiveTickets as oracle;
 ghost use Rattle.vl_pins.specs.Pins.{ArePinsOf, bound_of, raised};
 ghost use Rattle.vl_pins.specs.declared.pins.Pins.{Pins};
 
-/// A pin holds a retired file exactly where the bound is below the version number that its retirement made.
+/// A pin holds a retired file exactly where the bound is below the epoch that its retirement made.
 pub fn the_bound_tells_what_is_held()
-    ensures { (pins : Pins) (l : Layout) (r : Retired) → ArePinsOf pins l → r.version_number ≤ l.version_number
-        → not (is_held (pins_of l) r) ≡ nat_le r.version_number (bound_of l.version_number pins) }
+    ensures { (pins : Pins) (l : Layout) (r : Retired) → ArePinsOf pins l → r.epoch ≤ l.epoch
+        → not (is_held (pins_of l) r) ≡ nat_le r.epoch (bound_of l.epoch pins) }
 {}
 
 /// What begins and ends is pinned as the layout has it.
 pub fn pins_are_those_of_what_lives()
     ensures begun { (pins : Pins) (l : Layout) (number : ℕ) → ArePinsOf pins l → IsRising (λ x. x.ticket) l.live
-        → ArePinsOf (record pins { live = oracle.begun (raised l.version_number pins.live) })
+        → ArePinsOf (record pins { live = oracle.begun (raised l.epoch pins.live) })
         (begun l (free_ticket (tickets_of l.live)) number) }
     ensures ended { (pins : Pins) (l : Layout) (ticket : ℕ) → ArePinsOf pins l
         → ArePinsOf (record pins { live = oracle.ended ticket pins.live }) (ended ticket l) }
     ensures neither { (pins : Pins) (l : Layout) → ArePinsOf pins l → IsRising (λ x. x.ticket) l.live
         → ArePinsOf (record pins {
           live = oracle.ended (oracle.free_ticket pins.live)
-              (oracle.begun (raised l.version_number pins.live));
+              (oracle.begun (raised l.epoch pins.live));
         }) l }
 {}

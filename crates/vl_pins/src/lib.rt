@@ -1,5 +1,5 @@
 //! Which versions what lives still looks at, which files of a store are in use, and which wait for their removal: a retired file
-//! may be removed when no pin is below the version number that its retirement made.
+//! may be removed when no pin is below the epoch that its retirement made.
 //!
 //! With n live things `Pins::begin` and `Pins::end` take the time that an oracle of tickets takes, and `bound` time of order log n.
 //! A file that comes into use takes a fixed time. A table that is retired is looked for among those in use, and a log isn't: they

@@ -7,7 +7,7 @@ ghost use Rattle.vl_pins.specs.Pins.{bound_of, least, raised};
 use std::alloc::Global;
 use vl_oracle::{BeginFail, Oracle};
 
-/// The version numbers at which what lives began: transactions and views by their tickets, the merge that is open, and the pass.
+/// The epochs at which what lives began: transactions and views by their tickets, the merge that is open, and the pass.
 #[derive(Drop)]
 pub struct Pins {
     pub live: Oracle,
@@ -29,14 +29,14 @@ impl Pins {
         }
     }
 
-    /// Pins a version number, which isn't below earlier ones, for what begins now: with the least ticket that is free here.
-    pub fn begin(&mut self, version: u64) -> Result<u32, BeginFail>
+    /// Pins an epoch, which isn't below earlier ones, for what begins now: with the least ticket that is free here.
+    pub fn begin(&mut self, epoch: u64) -> Result<u32, BeginFail>
         ensures begun { IfOk result (λ ticket. (ticket ≡ free_ticket self.old.live)
-            × (self.new ≡ record self.old { live = begun (raised version self.old.live) })) }
+            × (self.new ≡ record self.old { live = begun (raised epoch self.old.live) })) }
         ensures too_many { (result ≡ Err why.TooMany) ↔ (length self.old.live.tickets ≡ max_live) }
-        ensures refused { OnErr result (self.new ≡ record self.old { live = raised version self.old.live }) }
+        ensures refused { OnErr result (self.new ≡ record self.old { live = raised epoch self.old.live }) }
     {
-        self.raise(version);
+        self.raise(epoch);
         self.live.begin()
     }
 
@@ -47,22 +47,22 @@ impl Pins {
         self.live.end(ticket);
     }
 
-    /// The least number that is pinned, and the present version number where that is lower: what was retired up to it is held by
+    /// The least number that is pinned, and the present epoch where that is lower: what was retired up to it is held by
     /// nothing.
-    pub fn bound(&mut self, version: u64) -> u64
-        ensures bound { result ≡ bound_of version self.old }
-        ensures pins { self.new ≡ record self.old { live = raised version self.old.live } }
+    pub fn bound(&mut self, epoch: u64) -> u64
+        ensures bound { result ≡ bound_of epoch self.old }
+        ensures pins { self.new ≡ record self.old { live = raised epoch self.old.live } }
     {
-        self.raise(version);
+        self.raise(epoch);
         lower(self.merge, lower(self.pass, self.live.floor()))
     }
 
     // From now on this version is the present one.
-    fn raise(&mut self, version: u64)
-        ensures { self.new ≡ record self.old { live = raised version self.old.live } }
+    fn raise(&mut self, epoch: u64)
+        ensures { self.new ≡ record self.old { live = raised epoch self.old.live } }
     {
-        if self.live.last() < version {
-            self.live.advance(version);
+        if self.live.last() < epoch {
+            self.live.advance(epoch);
         }
     }
 }

@@ -77,17 +77,17 @@ impl<L: Drop> Stock<L> {
         }
     }
 
-    /// A table is retired by a step that made this version number. One that isn't in use stays as it is.
-    pub fn retire_table(&mut self, table: u32, version: u64)
+    /// A table is retired by a step that made this epoch. One that isn't in use stays as it is.
+    pub fn retire_table(&mut self, table: u32, epoch: u64)
         requires { HasRoom self.old 0 0 0 }
-        ensures retired { BecomesBy (table_retired version table) self.old self.new }
+        ensures retired { BecomesBy (table_retired epoch table) self.old self.new }
         ensures room { (t l n : ℕ) → HasRoom self.old t l n → HasRoom self.new t l n }
     {
         if let Some(in_use) = &mut self.in_use {
             if take(&mut in_use.tables, table) {
                 self.trash.push_back_reserved(RetiredFile {
                     name: Name::Table(table),
-                    version,
+                    epoch,
                     lent: None,
                 });
             }
@@ -95,16 +95,16 @@ impl<L: Drop> Stock<L> {
     }
 
     /// So is a log.
-    pub fn retire_log(&mut self, log: u32, version: u64)
+    pub fn retire_log(&mut self, log: u32, epoch: u64)
         requires { HasRoom self.old 0 0 0 }
-        ensures retired { BecomesBy (log_retired version log) self.old self.new }
+        ensures retired { BecomesBy (log_retired epoch log) self.old self.new }
         ensures room { (t l n : ℕ) → HasRoom self.old t l n → HasRoom self.new t l n }
     {
         if let Some(in_use) = &mut self.in_use {
             if take(&mut in_use.logs, log) {
                 self.trash.push_back_reserved(RetiredFile {
                     name: Name::Log(log),
-                    version,
+                    epoch,
                     lent: None,
                 });
             }
@@ -123,7 +123,7 @@ impl<L: Drop> Stock<L> {
         if self.trash.len() < self.trash.capacity() {
             self.trash.push_back_reserved(RetiredFile {
                 name: Name::Table(table),
-                version: 0,
+                epoch: 0,
                 lent: Some(lent),
             });
         }

@@ -16,7 +16,7 @@ pub fn place_up_to<L>(files: &Trash<L>, bound: u64) -> usize
 {
     let mut at = 0;
     while let Some(file) = files.get(at) {
-        if file.version <= bound {
+        if file.epoch <= bound {
             return at;
         }
         at += 1;

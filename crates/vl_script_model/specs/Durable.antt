@@ -70,7 +70,7 @@ without_live l = record l { live = [] }
 
 -- a file that a version needed once, unlike one of a merge that was given up
 abbrev pub was_needed : Retired → Bool
-was_needed r = nat_lt 0 r.version_number
+was_needed r = nat_lt 0 r.epoch
 
 -- A layout but for what lives, and for what merges leave beside it that were given up: numbers that were given to their files, and
 -- these files, which no version ever needed.

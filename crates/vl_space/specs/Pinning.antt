@@ -12,12 +12,12 @@ use Rattle.vl_oracle.specs.declared.begin_fail.BeginFail.{BeginFail}
 use Rattle.vl_pins.specs.Pins.{ArePinsOf, raised}
 use Rattle.vl_pins.specs.declared.pins.Pins.{Pins}
 
--- What lives is the layout's, and so are the pins; this is its version number.
+-- What lives is the layout's, and so are the pins; this is its epoch.
 pub record PinsLive (live : LiveTickets) (pins : Pins) (version : ℕ) (l : Layout) : Type 0 where
   pub live_are : live.tickets ≡ tickets_of l.live
   pub rising : IsRising (λ (x : Live). x.ticket) l.live
   pub pins_are : ArePinsOf pins l
-  pub version_is : version ≡ l.version_number
+  pub version_is : version ≡ l.epoch
 
 abbrev pub without_pin : Option ℕ → Pins → Pins
 without_pin None pins = pins

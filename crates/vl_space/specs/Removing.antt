@@ -54,7 +54,7 @@ all_retired trash = map retired_of trash
 pub record IsStockOf {H L : Type 0} (core : Core H) (stock : Stock L) (l : Layout) : Type 0 where
   pub in_use : UsesThoseOf core.version.behind.logs.items stock.in_use l
   pub trash : all_retired stock.trash.items ≡ l.retired
-  pub aged : AllByRecursion (λ (r : Retired). r.version_number ≤ l.version_number) l.retired
+  pub aged : AllByRecursion (λ (r : Retired). r.epoch ≤ l.epoch) l.retired
   -- there is room for each file that was lent to the open merge
   pub room : deque_len stock.trash + length (lent_numbers l.job) ≤ deque_capacity stock.trash
 

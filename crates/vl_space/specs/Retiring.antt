@@ -125,7 +125,7 @@ module _ {H W : Type 0} (before : Core H) where
       (lent : ℕ) : Type 0 where
     pub readied : Stock (Lent W s)
     pub is_ready : IsReadied before old readied (length added) lent
-    pub switched : BecomesBy (switching (before.back.version_number + 1) added dropped (is_idle_in (head_in after) tally)) readied new
+    pub switched : BecomesBy (switching (before.back.epoch + 1) added dropped (is_idle_in (head_in after) tally)) readied new
     pub room : HasRoom new 0 0 lent
     pub held : HoldsNeeded before after tally
 
@@ -136,7 +136,7 @@ pub record InstallsInto {H R W : Type 0} {s : _} (job : Job (Base H R) H W s) (b
   pub is_ready : IsReadied before old readied (length job.made.items) lent
   pub mid : Stock (Lent W s)
   pub left : LeavesFiles job.leavings.items readied mid
-  pub switched : BecomesBy (switching (before.back.version_number + 1) (map (λ (t : Synced W s). t.number) job.made.items)
+  pub switched : BecomesBy (switching (before.back.epoch + 1) (map (λ (t : Synced W s). t.number) job.made.items)
       (map number_of (filter (is_input (map number_of job.inputs.tables.items)) (tables_of before.version.behind.levels)))
       (is_idle_in (head_in after) tally)) mid new
   pub held : HoldsNeeded before after tally

@@ -120,13 +120,13 @@ pub record HasSwept {D W : Type 0} (g : Ghosts D) (w : Writers W) {s : _} (bound
 abbrev pub SweepsAs : {D H W : Type 0} → Ghosts D → Writers W → {s : _} → (bound : ℕ) → (old new : D) → (core after : Core H)
     → (before now : Removing (Lent W s)) → Result ℕ SweepFail → Type 0
 SweepsAs g w bound old new core after before now (Ok count) = (core.front.halted ≡ None) × (after ≡ core)
-    × HasSwept g w bound core.back.version_number old new before now count
+    × HasSwept g w bound core.back.epoch old new before now count
 SweepsAs g w bound old new core after before now (Err (fails.Halted name)) =
     (core.front.halted ≡ Some name) × (after ≡ core) × (new ≡ old) × (now ≡ before)
 SweepsAs g w bound old new core after before now (Err (fails.Disk name)) = (core.front.halted ≡ None)
     × (after ≡ record core { front = record core.front { halted = Some name } })
     × StopsRemoving g w (ready bound before.stock.trash.items) old new name
-    × PinsStay core.back.version_number before.pins now.pins
+    × PinsStay core.back.epoch before.pins now.pins
 
 -- ---- as the ruling has it
 
@@ -191,7 +191,7 @@ at disk core merging removing collecting =
 module _ {D H W : Type 0} (g : Ghosts D) (w : Writers W) (bytes : H → Option (List ℕ)) {s : _} (least : Option ℕ)
     (old new : At D H (Lent W s)) (result : Result ℕ SweepFail) where
   abbrev bound : ℕ
-  bound = up_to least old.core.back.version_number old.removing.pins
+  bound = up_to least old.core.back.epoch old.removing.pins
 
   -- the files that nothing holds
   abbrev names_ready : List Name

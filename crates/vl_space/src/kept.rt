@@ -15,7 +15,7 @@ pub struct Collecting {
 /// What is kept of which files can go.
 #[derive(Drop)]
 pub struct Removing<L> {
-    /// The version numbers at which what still looks at files began.
+    /// The epochs at which what still looks at files began.
     pub pins: Pins,
     /// The files in use, and those that wait for their removal.
     pub stock: Stock<L>,

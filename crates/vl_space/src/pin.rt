@@ -15,22 +15,22 @@ use vl_front::Front;
 use vl_oracle::BeginFail;
 use vl_pins::Pins;
 
-/// Begins a transaction or a view at the last number, and pins this version number under its ticket.
-pub fn begin(front: &mut Front, pins: &mut Pins, version: u64) -> Result<u32, BeginFail>
+/// Begins a transaction or a view at the last number, and pins this epoch under its ticket.
+pub fn begin(front: &mut Front, pins: &mut Pins, epoch: u64) -> Result<u32, BeginFail>
     ensures ok { IfOk result (λ ticket. (ticket ≡ free_ticket front.old.oracle) × (front.new.oracle ≡ begun front.old.oracle)) }
     ensures room { OnOk result (length front.old.oracle.tickets ≢ max_live) }
     ensures too_many { result ≡ Err why.TooMany → length front.old.oracle.tickets ≡ max_live }
     ensures err { OnErr result (front.new ≡ front.old) }
     ensures log { SameLog front.old front.new }
     ensures knows { (h : History) → Knows front.old h → Knows front.new h }
-    ensures pins { PinsAs version pins.old pins.new result }
+    ensures pins { PinsAs epoch pins.old pins.new result }
 
     // So it is pinned as a layout has it.
-    ensures pinned { (l : Layout) (number : ℕ) → PinsLive front.old.oracle pins.old version l
+    ensures pinned { (l : Layout) (number : ℕ) → PinsLive front.old.oracle pins.old epoch l
         → OnOk result (ArePinsOf pins.new (begun_there l (free_there (tickets_of l.live)) number)) }
-    ensures unpinned { (l : Layout) → PinsLive front.old.oracle pins.old version l → OnErr result (ArePinsOf pins.new l) }
+    ensures unpinned { (l : Layout) → PinsLive front.old.oracle pins.old epoch l → OnErr result (ArePinsOf pins.new l) }
 {
-    let pinned = match pins.begin(version) {
+    let pinned = match pins.begin(epoch) {
         Ok(ticket) => Some(ticket),
         Err(BeginFail::TooMany) => None,
         Err(BeginFail::NoMemory) => return Err(BeginFail::NoMemory),

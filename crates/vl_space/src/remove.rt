@@ -51,7 +51,7 @@ impl<L: Drop> Removing<L> {
         Ok(())
     }
 
-    /// Behind a switch that made this version number: these tables come into use, and are retired; and so are the logs in use below
+    /// Behind a switch that made this epoch: these tables come into use, and are retired; and so are the logs in use below
     /// head of which nothing is live.
     pub fn switch(
         &mut self,
@@ -59,11 +59,11 @@ impl<L: Drop> Removing<L> {
         dropped: &[u32],
         live: &LiveBytes,
         head: u32,
-        version: u64,
+        epoch: u64,
     )
         requires { HasRoom self.old.stock (length added.now) 0 0 }
         ensures pins { self.new.pins ≡ self.old.pins }
-        ensures switched { BecomesBy (switching version added.now dropped.now (is_idle_log head live.now))
+        ensures switched { BecomesBy (switching epoch added.now dropped.now (is_idle_log head live.now))
             self.old.stock self.new.stock }
         ensures room { (n : ℕ) → HasRoom self.old.stock (length added.now) 0 n → HasRoom self.new.stock 0 0 n }
     {
@@ -71,22 +71,22 @@ impl<L: Drop> Removing<L> {
             self.stock.add_table(*table);
         }
         for table in dropped {
-            self.stock.retire_table(*table, version);
+            self.stock.retire_table(*table, epoch);
         }
-        retire_logs(&mut self.stock, live, head, version);
+        retire_logs(&mut self.stock, live, head, epoch);
     }
 }
 
 // The logs below head of which nothing is live are retired.
-fn retire_logs<L: Drop>(stock: &mut Stock<L>, live: &LiveBytes, head: u32, version: u64)
+fn retire_logs<L: Drop>(stock: &mut Stock<L>, live: &LiveBytes, head: u32, epoch: u64)
     requires { HasRoom stock.old 0 0 0 }
-    ensures retired { BecomesBy (retiring version (is_idle_log head live.now)) stock.old stock.new }
+    ensures retired { BecomesBy (retiring epoch (is_idle_log head live.now)) stock.old stock.new }
     ensures room { (n : ℕ) → HasRoom stock.old 0 0 n → HasRoom stock.new 0 0 n }
 {
     let mut at = 0;
     while let Some(log) = log_at(stock, at) {
         if is_idle(live, head, log) {
-            stock.retire_log(log, version);
+            stock.retire_log(log, epoch);
         } else {
             at += 1;
         }

@@ -40,7 +40,7 @@ use Rattle.vl_engine_model.specs.declared.job.Target.{Target}
 use Rattle.vl_engine_model.specs.declared.layout.Layout.{Layout}
 use Rattle.vl_engine_model.specs.declared.table.Table as laid
 use Rattle.vl_manifest.specs.Switching.{Switches}
-use Rattle.vl_model.specs.Limits.{max_version_number}
+use Rattle.vl_model.specs.Limits.{max_epoch}
 use Rattle.vl_model.specs.Numbers.{has}
 use Rattle.vl_model.specs.declared.counter.Counter.TheVariants as counters
 use Rattle.vl_model.specs.declared.counter.Counter.{Counter}
@@ -128,7 +128,7 @@ pub record IsBackInstalled (before after : Back) (staged : StagedInstall) : Type
   pub state : after.state ≡ staged.state
   pub next_log : after.next_log ≡ before.next_log
   pub waiting : after.waiting.items ≡ before.waiting.items
-  pub version : after.version_number ≡ before.version_number + 1
+  pub version : after.epoch ≡ before.epoch + 1
 
 -- ---- what it came to
 
@@ -168,7 +168,7 @@ pub record IsUninstalled {D H R W : Type 0} (g : Ghosts D) (bytes : H → Option
   pub stops : StopsInstalling g bytes w job.made.items before.back.manifest.number ready.staged.edits.frame.items begun new
       ready.levels levels name
   pub front : after.front ≡ record before.front { halted = Some name }
-  pub version_number : after.back.version_number ≡ before.back.version_number
+  pub epoch : after.back.epoch ≡ before.back.epoch
   pub state : after.back.state ≡ before.back.state
   pub version : after.version ≡ before.version
 
@@ -183,18 +183,18 @@ InstallsAs g bytes w job old new before after (Err (install.NoMemory back)) =
     (back ≡ job) × (after ≡ before) × ChangesNothing g old new ⊥
 InstallsAs g bytes w job old new before after (Err (install.Disk name)) = IsUninstalled g bytes w job old new before after name
 
--- No version number is left, and nothing was done.
+-- No epoch is left, and nothing was done.
 pub record IsUsedUp {D H : Type 0} (old new : D) (before after : Core H) (counter : Counter) : Type 0 where
   pub counter_is : counter ≡ counters.Version
-  pub used : nat_le max_version_number before.back.version_number ≡ true
+  pub used : nat_le max_epoch before.back.epoch ≡ true
   pub disk : new ≡ old
   pub core : after ≡ before
 
--- a version number is left
+-- an epoch is left
 abbrev pub HasVersion : {H : Type 0} → Core H → Type 0
-HasVersion core = nat_le max_version_number core.back.version_number ≡ false
+HasVersion core = nat_le max_epoch core.back.epoch ≡ false
 
--- so it is where a version number may be wanting, too
+-- so it is where an epoch may be wanting, too
 abbrev pub InstallsUnraced : {D H R W : Type 0} → Ghosts D → (H → Option (List ℕ)) → Writers W → {s : _} → Job (Base H R) H W s
     → (old new : D) → (before after : Core H) → Result (Unit {0}) (InstallFail (Base H R) H W s) → Type 0
 InstallsUnraced g bytes w job old new before after (Ok done) =
@@ -245,10 +245,10 @@ pub data StopsInstall {V H W : Type 0} {s : _} (job : Job V H W s) (manifest bef
   -- at the manifest: of two calls on it the last that was made failed
   at_manifest : FailedAt (calls_on 2 (names.Manifest manifest)) before now name → StopsInstall job manifest before now name
 
--- where it may fail: nothing failed before, and a version number is left
+-- where it may fail: nothing failed before, and an epoch is left
 pub record MayInstall {H : Type 0} (core : Core H) : Type 0 where
   pub running : core.front.halted ≡ None
-  pub version : core.back.version_number < max_version_number
+  pub version : core.back.epoch < max_epoch
 
 -- By then it was staged, and some of the job's tables were taken back, or all, and then named in part.
 pub record WritesInstall {D H R W : Type 0} (g : Ghosts D) (bytes : H → Option (List ℕ)) (w : Writers W) {s : _}
@@ -282,28 +282,28 @@ KeepsAllBut tables old new = (before now : DiskState) → old ≡ Some before �
 
 -- ---- in memory, by what is answered
 
--- A version is made, which has one version number more. What decides on commits stays. Of what steps on files need, the
+-- A version is made, which has one epoch more. What decides on commits stays. Of what steps on files need, the
 -- manifest's number, that of the next log, and the logs that wait stay.
 pub record MakesVersion {H : Type 0} (before after : Core H) : Type 0 where
   pub running : before.front.halted ≡ None
   pub front : after.front ≡ before.front
-  pub version_number : after.back.version_number ≡ before.back.version_number + 1
+  pub epoch : after.back.epoch ≡ before.back.epoch + 1
   pub manifest : after.back.manifest.number ≡ before.back.manifest.number
   pub next_log : after.back.next_log ≡ before.back.next_log
   pub waiting : after.back.waiting.items ≡ before.back.waiting.items
 
--- No version number is left, and nothing changes.
+-- No epoch is left, and nothing changes.
 pub record HasNoVersion {H : Type 0} (before after : Core H) (counter : Counter) : Type 0 where
   pub running : before.front.halted ≡ None
   pub counter_is : counter ≡ counters.Version
-  pub used : max_version_number ≤ before.back.version_number
+  pub used : max_epoch ≤ before.back.epoch
   pub same : after ≡ before
 
 -- A fault halts at this file. What is read, and the state that the engine keeps of its manifest, are as before.
 pub record HaltsInstall {H : Type 0} (before after : Core H) (name : Name) : Type 0 where
   pub running : before.front.halted ≡ None
   pub front : after.front ≡ record before.front { halted = Some name }
-  pub version_number : after.back.version_number ≡ before.back.version_number
+  pub epoch : after.back.epoch ≡ before.back.epoch
   pub state : after.back.state ≡ before.back.state
   pub version : after.version ≡ before.version
 

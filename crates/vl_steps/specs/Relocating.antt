@@ -38,7 +38,7 @@ use Rattle.vl_model.specs.Cursors.{HasRisen}
 use Rattle.vl_model.specs.Entries.{in_order}
 use Rattle.vl_model.specs.Formats.{log_format}
 use Rattle.vl_model.specs.History.{History, last_number}
-use Rattle.vl_model.specs.Limits.{max_version_number}
+use Rattle.vl_model.specs.Limits.{max_epoch}
 use Rattle.vl_model.specs.Winners.{exact}
 use Rattle.vl_model.specs.declared.counter.Counter.TheVariants as counters
 use Rattle.vl_model.specs.declared.counter.Counter.{Counter}
@@ -102,7 +102,7 @@ move_entries_of (m ∷ ms) (pointer ∷ pointers) = moved_entry m pointer ∷ mo
 abbrev pub HasRoomBehind : Vec Named Global → OpenMerge → Type 0
 HasRoomBehind notes merge = vec_len notes + vec_len merge.moved ≤ vec_capacity notes
 
--- Where a merge is open they are the moved records' keys, each with the version number that the move makes, and have that room.
+-- Where a merge is open they are the moved records' keys, each with the epoch that the move makes, and have that room.
 pub record IsNotes (number : ℕ) (moved : List Moved) (merging : Option OpenMerge) (notes : Vec Named Global)
     : Type 0 where
   pub are : ForSome merging (λ (o : OpenMerge). notes.items ≡ moves_at number moved)
@@ -131,7 +131,7 @@ abbrev pub WritesMove : {D H : Type 0} → Ghosts D → (old new : D) → (befor
     → List Moved → Result ℕ DiskFail → Type 0
 WritesMove g old new before after merging now moved (Ok count) =
     (count ≡ length moved) × HasMoved g old new before after moved
-    × NotesMoves merging now (moves_at (before.back.version_number + 1) moved)
+    × NotesMoves merging now (moves_at (before.back.epoch + 1) moved)
 WritesMove g old new before after merging now moved (Err disk_fails.NoMemory) =
     (after ≡ before) × ChangesNothing g old new ⊥ × (now ≡ merging)
 WritesMove g old new before after merging now moved (Err disk_fails.Failed) =
@@ -167,19 +167,19 @@ module _ {D H R : Type 0} (g : Ghosts D) (bytes : H → Option (List ℕ)) (faul
     pub finds : Finds bytes old.core segment batch old.looks moved
     pub well : ReadWell
 
-  -- There are some, and a version number is left.
+  -- There are some, and an epoch is left.
   pub record HasSome (moved : List Moved) : Type 0 where
     pub found : HasFound moved
     pub some : 1 ≤ length moved
-    pub left : old.core.back.version_number < max_version_number
+    pub left : old.core.back.epoch < max_epoch
 
-  -- No version number is left for them.
+  -- No epoch is left for them.
   pub record IsUsedUp (counter : Counter) : Type 0 where
     pub moved : List Moved
     pub found : HasFound moved
     pub some : 1 ≤ length moved
     pub counter_is : counter ≡ counters.Version
-    pub used : max_version_number ≤ old.core.back.version_number
+    pub used : max_epoch ≤ old.core.back.epoch
 
   -- The log has no room for their frame.
   pub record IsFull (length_then frame : ℕ) : Type 0 where
@@ -220,7 +220,7 @@ module _ {D H R : Type 0} (g : Ghosts D) (bytes : H → Option (List ℕ)) (faul
     pub hands : HandsOver moved
     pub count_is : count ≡ length moved
     pub moves : HasMoved g old.disk new.disk old.core new.core moved
-    pub notes : NotesMoves old.merging new.merging (moves_at (old.core.back.version_number + 1) moved)
+    pub notes : NotesMoves old.merging new.merging (moves_at (old.core.back.epoch + 1) moved)
 
   -- Memory ran out, in a look-up or behind all of them: nothing was changed but for room that was made.
   pub record HasRunOut : Type 0 where
@@ -355,13 +355,13 @@ pub record IsTableAmong {H : Type 0} (tables : List (Table H)) (name : Name) : T
 
 -- ---- what stays
 
--- a version number more, where something was moved
+-- an epoch more, where something was moved
 abbrev pub moved_version : Result ℕ MoveFail → ℕ → ℕ
 moved_version (Ok zero) number = number
 moved_version (Ok (suc n)) number = number + 1
 moved_version (Err why) number = number
 
--- Of the open merge so many keys more are noted, the latest first, each with this version number.
+-- Of the open merge so many keys more are noted, the latest first, each with this epoch.
 pub record NotesKeys (count number : ℕ) (old new : Option OpenMerge) : Type 0 where
   pub keys : List (List ℕ)
   pub count_is : length keys ≡ count

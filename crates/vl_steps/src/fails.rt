@@ -79,8 +79,8 @@ pub enum InstallFail<V, H: HeldFile, W: Writer> {
     Halted { name: Name },
     /// The merge dropped the deletion of a key of which a record was relocated meanwhile, by the step that made this version
     /// number. It is the least such key. Plan the merge again.
-    Raced { key: Key, version_number: u64 },
-    /// No version number is left.
+    Raced { key: Key, epoch: u64 },
+    /// No epoch is left.
     Exhausted(Counter),
     NoMemory(Job<V, H, W>),
     /// The disk failed at this file, and the engine is halted. When the store is opened again it has either the inputs or the

@@ -103,7 +103,7 @@ pub fn has_room(length: u64, more: u64, room: u64) -> bool
     length <= room && more <= room - length
 }
 
-/// Stages the relocation of these records, by which the engine gets a version number. The disk and the engine are as before,
+/// Stages the relocation of these records, by which the engine gets an epoch. The disk and the engine are as before,
 /// but for room that was made.
 pub fn stage_move<D: Disk>(
     alloc: Global,
@@ -165,7 +165,7 @@ fn entry_of(moved: &Moved, pointer: Pointer) -> Result<Entry, AllocError>
     })
 }
 
-// The keys of moved records with the version number that their move makes, where a merge is open: with room behind them for
+// The keys of moved records with the epoch that their move makes, where a merge is open: with room behind them for
 // those that were noted before.
 fn notes_of(
     alloc: Global,

@@ -10,7 +10,7 @@ use Rattle.vl_engine_laws.specs.declared.kept.Core.{Core}
 use Rattle.vl_space.specs.Collecting.{Collects, Tallies}
 use Rattle.vl_space.specs.declared.kept.Collecting.{Collecting}
 use Rattle.vl_engine_model.specs.Decides.{Decides, Effects, Outcome, as_before}
-use Rattle.vl_engine_model.specs.Ruling.{Ruling, halted_at, has_no_number, has_no_version, leaving}
+use Rattle.vl_engine_model.specs.Ruling.{Ruling, halted_at, has_no_number, has_no_epoch, leaving}
 use Rattle.vl_engine_model.specs.Rulings.Begin.{begin_ruling}
 use Rattle.vl_engine_model.specs.Rulings.Commit as commit
 use Rattle.vl_engine_model.specs.Rulings.Commit.{CommitAnswer, Transaction, commit_checked}
@@ -210,7 +210,7 @@ module _ (l : Layout) (h : History) where
   moves_of : (ms : List Moved) → LeavesPass (relocate_of l h ms)
   moves_of [] = (same_logs l, refl)
   moves_of (m ∷ ms) =
-      either LeavesPass (has_no_version l) _ _ (same_logs l, refl)
+      either LeavesPass (has_no_epoch l) _ _ (same_logs l, refl)
       (either LeavesPass (nat_le (l.active.length + frame_length l.active.format (Relocated (m ∷ ms))) l.room) _ _
       (record { sealed_is = refl; tables_are = refl; flushed_is = refl }, refl) (same_logs l, refl))
 

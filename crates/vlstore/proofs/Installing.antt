@@ -12,7 +12,7 @@ use Rattle.vl_steps.specs.declared.fails.InstallFail.TheVariants as fails
 use Rattle.vl_engine_laws.specs.declared.open.OpenMerge.{OpenMerge}
 use Rattle.vl_engine_model.specs.Jobs.{Made, job_ended}
 use Rattle.vl_engine_model.specs.LockHistory.{IsOwn, last_layout, open_job}
-use Rattle.vl_engine_model.specs.Ruling.{Ruling, halted_at, has_no_version}
+use Rattle.vl_engine_model.specs.Ruling.{Ruling, halted_at, has_no_epoch}
 use Rattle.vl_engine_model.specs.Rulings.Install.{InstallAnswer, install_checked, install_ruling, install_unless, moved_since, race}
 use Rattle.vl_engine_model.specs.declared.file_name.FileName.{FileName}
 use Rattle.vl_engine_model.specs.declared.job.Job.{Job}
@@ -45,7 +45,7 @@ module _ (l : Layout) (h : History) (job : Job) (made : Made) where
 
   ends_checked : (raced : Option Named) → EndsJob (install_checked l h job made raced)
   ends_checked (Some named) = refl
-  ends_checked None = either (has_no_version l) _ _ refl refl
+  ends_checked None = either (has_no_epoch l) _ _ refl refl
 
   ends_unless : (halted : Option FileName) → EndsJob (install_unless halted l h job made)
   ends_unless (Some name) = refl

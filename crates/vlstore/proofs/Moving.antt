@@ -10,7 +10,7 @@ use Rattle.vl_engine_laws.specs.declared.open.OpenMerge.{OpenMerge}
 use Rattle.vl_engine_model.specs.Decides.{Answered, Damaged, Decides, Failed, NoMemory, Outcome, as_before, no_effects}
 use Rattle.vl_engine_model.specs.LockHistory.{last_layout}
 use Rattle.vl_engine_model.specs.Relocation.{Candidate, Pass, moved_of}
-use Rattle.vl_engine_model.specs.Ruling.{Ruling, has_no_version}
+use Rattle.vl_engine_model.specs.Ruling.{Ruling, has_no_epoch}
 use Rattle.vl_engine_model.specs.Rulings.Relocate as relocate
 use Rattle.vl_engine_model.specs.Rulings.Relocate.{MoveAnswer, relocate_of, relocate_ruling, relocate_unless, with_moves}
 use Rattle.vl_engine_model.specs.Sources.{sources}
@@ -105,9 +105,9 @@ module _ (l : Layout) (h : History) where
   moved_lent : (ms : List Moved) → KeepsLent (relocate_of l h ms)
   moved_lent [] = refl
   moved_lent (m ∷ ms) =
-      either (has_no_version l) _ _ refl
+      either (has_no_epoch l) _ _ refl
       (either (nat_le (l.active.length + frame_length l.active.format (Relocated (m ∷ ms))) l.room) _ _
-      (with_lent (l.version_number + 1) (m ∷ ms) l.job) refl)
+      (with_lent (l.epoch + 1) (m ∷ ms) l.job) refl)
 
   unless_lent : (halted : Option FileName) (pass : Pass) (batch : List Candidate) → KeepsLent (relocate_unless halted l h pass batch)
   unless_lent (Some name) pass batch = refl

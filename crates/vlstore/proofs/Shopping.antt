@@ -26,7 +26,7 @@ use Rattle.vl_space.specs.declared.fails.SweepFail.TheVariants as sweep_fails
 use Rattle.vl_reads.specs.declared.txn.Txn.{Txn}
 use Rattle.vl_engine_model.specs.Decides.{Answered, Damaged, Failed, NoMemory, Outcome}
 use Rattle.vl_engine_model.specs.LockHistory.{IsLegal, entries_by, open_pass, pass_after}
-use Rattle.vl_engine_model.specs.Ruling.{Ruling, StepAnswer, has_no_number, has_no_version, leaving}
+use Rattle.vl_engine_model.specs.Ruling.{Ruling, StepAnswer, has_no_number, has_no_epoch, leaving}
 use Rattle.vl_engine_model.specs.Ruling as ruling
 use Rattle.vl_engine_model.specs.Rulings.Begin as begin
 use Rattle.vl_engine_model.specs.Rulings.Begin.{BeginAnswer, begin_ruling}
@@ -361,7 +361,7 @@ rotate_runs l h runs = subst (λ (halted : Option FileName). IsRunning (rotate_u
 
     of : (fs : List LogFrame) → IsRunning (rotate_of fs l h).answer
     of [] = tt
-    of (f ∷ fs) = numbered (has_no_number l.next_log 1) (has_no_version l)
+    of (f ∷ fs) = numbered (has_no_number l.next_log 1) (has_no_epoch l)
 
 flush_runs : (l : Layout) (h : History) → l.halted ≡ None → IsRunning (flush_ruling l h).answer
 flush_runs l h runs = subst (λ (halted : Option FileName). IsRunning (flush_unless halted l h).answer) (sym runs) (of _)
@@ -375,7 +375,7 @@ flush_runs l h runs = subst (λ (halted : Option FileName). IsRunning (flush_unl
 
     of : (s : Option Segment) → IsRunning (flush_of l h s).answer
     of None = tt
-    of (Some s) = numbered s (has_no_number l.next_table 1) (has_no_version l)
+    of (Some s) = numbered s (has_no_number l.next_table 1) (has_no_epoch l)
 
 abbrev pub IsSweeping : SweepAnswer → Type 0
 IsSweeping (sweep.Removed n) = Unit {0}
@@ -547,7 +547,7 @@ module _ {sure : Type 0} (v w : Knows) (surely : sure) (runs : v.origin.layout.h
           where
             of : (ms : List Moved) → IsMoving (relocate_of l h ms).answer
             of [] = tt
-            of (m ∷ ms) = numbered (has_no_version l)
+            of (m ∷ ms) = numbered (has_no_epoch l)
                 (nat_le (l.active.length + frame_length l.active.format (Relocated (m ∷ ms))) l.room)
               where
                 numbered : (a b : Bool) → IsMoving (if a then leaving (relocate.Exhausted counter.Version) h l

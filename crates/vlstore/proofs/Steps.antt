@@ -8,7 +8,7 @@ use Rattle.vl_engine_laws.specs.laws.Lasting.{flush_lasts, lasts_halted, lasts_r
 use Rattle.vl_engine_model.specs.Decides.{Answered, as_before}
 use Rattle.vl_engine_model.specs.LockHistory.{IsOpen, put_after}
 use Rattle.vl_engine_model.specs.Ruling.{Exhausted, Ruling, StepAnswer}
-use Rattle.vl_engine_model.specs.Ruling.{ended, halted_at, has_no_number, has_no_version, leaving}
+use Rattle.vl_engine_model.specs.Ruling.{ended, halted_at, has_no_number, has_no_epoch, leaving}
 use Rattle.vl_engine_model.specs.Rulings.Begin.{BeginAnswer, begin_ruling, begun}
 use Rattle.vl_engine_model.specs.Rulings.Commit as commit
 use Rattle.vl_engine_model.specs.Rulings.Commit.{CommitAnswer, Transaction, commit_checked}
@@ -175,7 +175,7 @@ module _ {H L : Type 0} {sure : Type 0} (bytes : H → Option (List ℕ)) (o : O
   rotates_of [] = stays
   rotates_of (f ∷ fs) =
       either (GoodStep (rotated l)) (has_no_number l.next_log 1) _ _ stays
-      (either (GoodStep (rotated l)) (has_no_version l) _ _ stays
+      (either (GoodStep (rotated l)) (has_no_epoch l) _ _ stays
       (enters Changed (rotated l) l.halted refl (changed o list is.start is.legal session (rotated l) refl refl refl)
       (λ log lasts. lasts_rotated bytes log l lasts is.whole.represents.stands.tidy.files.stocked.logs_drawn.0) refl))
 
@@ -199,7 +199,7 @@ module _ {H L : Type 0} {sure : Type 0} (bytes : H → Option (List ℕ)) (o : O
   flushes_of None = λ last. stays
   flushes_of (Some s) =
       either Flushes (has_no_number l.next_table 1) (leaving (Exhausted counter.Table) h l) _ (λ last. stays)
-      (either Flushes (has_no_version l) (leaving (Exhausted counter.Version) h l) _ (λ last. stays)
+      (either Flushes (has_no_epoch l) (leaving (Exhausted counter.Version) h l) _ (λ last. stays)
       (λ last. enters Changed (flushed l s) l.halted refl (changed o list is.start is.legal session (flushed l s) refl refl refl) last
       refl))
 

@@ -2,7 +2,7 @@
 use Rattle.std.proofs.Common.{◌≡◌, ℕ, List, [], ◌∷◌, length, refl, sym, subst}
 use Rattle.std.specs.Prelude.{Bool, true, false, nat_le, if◌then◌else◌, Option, None, Some}
 use Rattle.vl_engine_model.specs.Decides.{Answered, Damaged, Decides, Effects, Failed, NoMemory, Otherwise, Outcome, as_before, no_effects}
-use Rattle.vl_engine_model.specs.Ruling.{Ruling, has_no_number, has_no_version, leaving}
+use Rattle.vl_engine_model.specs.Ruling.{Ruling, has_no_number, has_no_epoch, leaving}
 use Rattle.vl_engine_model.specs.Rulings.Begin.{begin_ruling}
 use Rattle.vl_engine_model.specs.Rulings.Flush.{flush_of, flush_ruling, flush_unless}
 use Rattle.vl_engine_model.specs.Rulings.Rotate.{rotate_of, rotate_ruling, rotate_unless}
@@ -183,7 +183,7 @@ module _ (l : Layout) (h : History) where
   rotate_frames : (fs : List LogFrame) → KeepsJob l (rotate_of fs l h)
   rotate_frames [] = refl
   rotate_frames (f ∷ fs) =
-      either (KeepsJob l) (has_no_number l.next_log 1) _ _ refl (either (KeepsJob l) (has_no_version l) _ _ refl refl)
+      either (KeepsJob l) (has_no_number l.next_log 1) _ _ refl (either (KeepsJob l) (has_no_epoch l) _ _ refl refl)
 
   rotate_halted : (halted : Option FileName) → KeepsJob l (rotate_unless halted l h)
   rotate_halted (Some name) = refl
@@ -195,7 +195,7 @@ module _ (l : Layout) (h : History) where
   flush_waits : (s : Option Segment) → KeepsJob l (flush_of l h s)
   flush_waits None = refl
   flush_waits (Some s) =
-      either (KeepsJob l) (has_no_number l.next_table 1) _ _ refl (either (KeepsJob l) (has_no_version l) _ _ refl refl)
+      either (KeepsJob l) (has_no_number l.next_table 1) _ _ refl (either (KeepsJob l) (has_no_epoch l) _ _ refl refl)
 
   flush_halted : (halted : Option FileName) → KeepsJob l (flush_unless halted l h)
   flush_halted (Some name) = refl

@@ -9,7 +9,7 @@ use Rattle.vl_engine_model.specs.Jobs.{Made, job_ended}
 use Rattle.vl_engine_model.specs.Levels.{due_from, first_into, inputs_at}
 use Rattle.vl_engine_model.specs.LockHistory.{IsOwn}
 use Rattle.vl_engine_model.specs.Relocation.{Candidate, Pass, moved_of}
-use Rattle.vl_engine_model.specs.Ruling.{Ruling, halted_at, has_no_number, has_no_version, leaving}
+use Rattle.vl_engine_model.specs.Ruling.{Ruling, halted_at, has_no_number, has_no_epoch, leaving}
 use Rattle.vl_engine_model.specs.Rulings.Drain.{drain_of, drain_ruling, drain_unless}
 use Rattle.vl_engine_model.specs.Rulings.EndPass.{without_pass}
 use Rattle.vl_engine_model.specs.Rulings.Fresh.{FreshAnswer, drawn, fresh_ruling, fresh_unless, lent_to}
@@ -163,7 +163,7 @@ module _ {H L : Type 0} {sure : Type 0} (bytes : H → Option (List ℕ)) (o : O
     installs_by : (raced : Option Named) → Installs (install_checked l h job made raced)
     installs_by (Some named) = ended (job_ended made l) l.halted refl refl refl refl
     installs_by None =
-        either Installs (has_no_version l) _ _ (ended (job_ended made l) l.halted refl refl refl refl)
+        either Installs (has_no_epoch l) _ _ (ended (job_ended made l) l.halted refl refl refl refl)
         (ended (installed job made l) l.halted refl refl refl refl)
 
     installs : (halted : Option FileName) → Installs (install_unless halted l h job made)
@@ -226,10 +226,10 @@ module _ {H L : Type 0} {sure : Type 0} (bytes : H → Option (List ℕ)) (o : O
   moves_of : (ms : List Moved) → Moves (relocate_of l h ms)
   moves_of [] = nothing
   moves_of (m ∷ ms) =
-      either Moves (has_no_version l) _ _ nothing
+      either Moves (has_no_epoch l) _ _ nothing
       (either Moves (nat_le (l.active.length + frame_length l.active.format (Relocated (m ∷ ms))) l.room) _ _
       (enters bytes o list x is session Changed (relocated l (m ∷ ms)) l.halted refl
-      (changed o list is.start is.legal session (relocated l (m ∷ ms)) refl (moved_job (l.version_number + 1) (m ∷ ms) l.job) refl)
+      (changed o list is.start is.legal session (relocated l (m ∷ ms)) refl (moved_job (l.epoch + 1) (m ∷ ms) l.job) refl)
       (λ log lasts. lasts_same bytes log l lasts _ refl refl) refl) nothing)
 
   moves : (halted : Option FileName) (pass : Pass) (batch : List Candidate) → Moves (relocate_unless halted l h pass batch)

@@ -121,13 +121,13 @@ module _ {H W : Type 0} {s : _} (bytes : H → Option (List ℕ)) (size : H → 
     logs : kept.logs ≡ log_numbers (rising (sealed (flushing l o)))
     logs = uses.logs ∙ ap (λ ss. log_numbers (rising ss)) (sym (sealed_same l o at))
 
-    version : before.back.version_number + 1 ≡ (flushing l o).version_number
+    version : before.back.epoch + 1 ≡ (flushing l o).epoch
     version = ap (λ k. k + 1) stands.fronts.version
 
     pub flushed_stock : IsStockOf after now.stock (flushed l o)
     flushed_stock =
         is_stock after now.stock (flushed l o)
-        (retiring (flushing l o).version_number (is_idle_log (head_in after) t.live) (with_tables (n ∷ []) kept))
+        (retiring (flushing l o).epoch (is_idle_log (head_in after) t.live) (with_tables (n ∷ []) kept))
         (subst (λ v. Has now.stock (retiring v (is_idle_log (head_in after) t.live) (with_tables (n ∷ []) kept))) version
         (switches.switched kept switches.is_ready.has))
         (record {
@@ -142,16 +142,16 @@ module _ {H W : Type 0} {s : _} (bytes : H → Option (List ℕ)) (size : H → 
         })
         (ap (all_retired {L = Lent W s}) (switch_waits (flushing l o) [] falls t.live (head_in after) of (with_tables (n ∷ []) kept) logs)
         ∙ map-both retired_of kept.trash
-        (gone_logs (flushing l o).version_number (log_numbers (rising (filter (is_idle (flushing l o)) (flushing l o).flushed))))
+        (gone_logs (flushing l o).epoch (log_numbers (rising (filter (is_idle (flushing l o)) (flushing l o).flushed))))
         ∙ ap (λ (rs : List Retired). rs ++ all_retired {L = Lent W s}
-        (gone_logs (flushing l o).version_number (log_numbers (rising (filter (is_idle (flushing l o)) (flushing l o).flushed)))))
+        (gone_logs (flushing l o).epoch (log_numbers (rising (filter (is_idle (flushing l o)) (flushing l o).flushed)))))
         (ap (all_retired {L = Lent W s}) (used_waits before was.stock) ∙ (removes.stock running).trash)
         ∙ ap (λ rs. l.retired ++ rs)
         (switch_retired (flushing l o) [] falls t.live (head_in after) of (with_tables (n ∷ []) kept) logs))
-        (all_more (λ (r : Retired). r.version_number ≤ l.version_number + 1) l.retired
-        (map (retired_at (l.version_number + 1)) (map log_of (rising (filter (is_idle (flushing l o)) (flushing l o).flushed))))
-        (aged_more l.version_number (l.version_number + 1) (omega arith) l.retired (removes.stock running).aged)
-        (just_retired (l.version_number + 1) (map log_of (rising (filter (is_idle (flushing l o)) (flushing l o).flushed)))))
+        (all_more (λ (r : Retired). r.epoch ≤ l.epoch + 1) l.retired
+        (map (retired_at (l.epoch + 1)) (map log_of (rising (filter (is_idle (flushing l o)) (flushing l o).flushed))))
+        (aged_more l.epoch (l.epoch + 1) (omega arith) l.retired (removes.stock running).aged)
+        (just_retired (l.epoch + 1) (map log_of (rising (filter (is_idle (flushing l o)) (flushing l o).flushed)))))
         (let room = switches.room.trash in
         let lent = ap length (opens_lent merging l.job opens) in
         omega (arith, room, lent))
@@ -256,7 +256,7 @@ module _ {H W : Type 0} {s : _} (bytes : H → Option (List ℕ)) (size : H → 
 
 pub switches_stock : {H W : Type 0} {s : _} (before after : Core H) (added dropped : List ℕ) (head version lent counted : ℕ)
     (live : List (ℕ × ℕ))
-    (kept : Option Tallied) (old mid new : Stock (Lent W s)) → version ≡ before.back.version_number + 1 → head ≡ head_in after
+    (kept : Option Tallied) (old mid new : Stock (Lent W s)) → version ≡ before.back.epoch + 1 → head ≡ head_in after
     → ((n : ℕ) → is_idle_in head kept n ≡ is_idle_log head live n) → counted ≡ lent → IsReadied before old mid (length added) counted
     → BecomesBy (switching version added dropped (is_idle_log head live)) mid new
     → ((n : ℕ) → HasRoom mid (length added) 0 n → HasRoom new 0 0 n) → HoldsNeeded before after kept
@@ -267,9 +267,9 @@ switches_stock {H} {W} {s} before after added dropped head version lent counted 
       is_ready = readied_for before old mid (length added) (length added) counted lent refl same ready;
       switched = λ (k : Kept (Lent W s)) has. subst (Has new)
           (ap (λ v. switching v added dropped (is_idle_log head live) k) made
-          ∙ ap (λ (i : ℕ → Bool). switching (before.back.version_number + 1) added dropped i k)
+          ∙ ap (λ (i : ℕ → Bool). switching (before.back.epoch + 1) added dropped i k)
           (λ j n. sym (idle n) j)
-          ∙ ap (λ m. switching (before.back.version_number + 1) added dropped (is_idle_in m kept) k) head_is)
+          ∙ ap (λ m. switching (before.back.epoch + 1) added dropped (is_idle_in m kept) k) head_is)
           (switched k has);
       room = room lent (no_logs mid (length added) (length added) 1 counted lent refl same ready.room);
       held = held;

@@ -177,7 +177,7 @@ retired_tables : (L : Type 0) (version : ℕ) (ts : List laid.Table)
 retired_tables L version [] = refl
 retired_tables L version (t ∷ ts) = ap (λ rs. retired_at version (table_of t) ∷ rs) (retired_tables L version ts)
 
-loose_aged : (version : ℕ) (ns : List ℕ) → AllByRecursion (λ (r : Retired). r.version_number ≤ version) (loose ns)
+loose_aged : (version : ℕ) (ns : List ℕ) → AllByRecursion (λ (r : Retired). r.epoch ≤ version) (loose ns)
 loose_aged version [] = tt
 loose_aged version (n ∷ ns) = (omega arith, loose_aged version ns)
 
@@ -226,7 +226,7 @@ module _ {H R W : Type 0} (bytes : H → Option (List ℕ)) (w : Writers W) (siz
       (numbers_zip bytes job.inputs.tables.items all.is.tables all.is.inputs ∙ sym all.is.numbers)
       ∙ inputs_are bytes o.job.inputs (tables_in before.version) (tables l) (tables_are bytes before.version l stands.has)
 
-  version : before.back.version_number + 1 ≡ l.version_number + 1
+  version : before.back.epoch + 1 ≡ l.epoch + 1
   version = ap (λ k. k + 1) stands.fronts.version
 
   -- the leavings wait first
@@ -249,10 +249,10 @@ module _ {H R W : Type 0} (bytes : H → Option (List ℕ)) (w : Writers W) (siz
   second = with_tables added (record kept { trash = kept.trash ++ all_left job.leavings.items })
 
   abbrev third : Kept (Lent W s)
-  third = tables_retired (l.version_number + 1) (numbers_of gone) second
+  third = tables_retired (l.epoch + 1) (numbers_of gone) second
 
   third_logs : third.logs ≡ log_numbers (rising (sealed first))
-  third_logs = tables_logs (l.version_number + 1) (numbers_of gone) second ∙ uses.logs
+  third_logs = tables_logs (l.epoch + 1) (numbers_of gone) second ∙ uses.logs
 
   falls : IsFalling (l.active ∷ l.frozen)
   falls = stands.tidy.files.stocked.falling
@@ -261,7 +261,7 @@ module _ {H R W : Type 0} (bytes : H → Option (List ℕ)) (w : Writers W) (siz
 
   keeps : (n : ℕ) → has n second.tables ≡ true → has n (numbers_of gone) ≡ false → has n third.tables ≡ true
   keeps n here off =
-      ap (has n) (tables_left (l.version_number + 1) (numbers_of gone) second)
+      ap (has n) (tables_left (l.epoch + 1) (numbers_of gone) second)
       ∙ has_filtered (λ (m : ℕ). not (has m (numbers_of gone))) n second.tables
       ∙ ap (λ b. b && not (has n (numbers_of gone))) here ∙ ap not off
 
@@ -295,9 +295,9 @@ module _ {H R W : Type 0} (bytes : H → Option (List ℕ)) (w : Writers W) (siz
       (λ x is other. keeps x.number (has_more x.number kept.tables added is) (not_dropped o.job.inputs (tables l) x.number other))
       (tables l) uses.tables)
 
-  third_waits : third.trash ≡ (kept.trash ++ all_left job.leavings.items) ++ gone_tables (l.version_number + 1) (numbers_of gone)
+  third_waits : third.trash ≡ (kept.trash ++ all_left job.leavings.items) ++ gone_tables (l.epoch + 1) (numbers_of gone)
   third_waits =
-      tables_wait (l.version_number + 1) (numbers_of gone) second
+      tables_wait (l.epoch + 1) (numbers_of gone) second
       (distinct_numbers (is_among o.job.inputs) (tables l) stands.tidy.levels.distinct)
       (all_passed (λ n. has n second.tables ≡ true) (is_among o.job.inputs) (tables l)
       (all_weaker (λ (x : laid.Table). has x.number kept.tables ≡ true) (λ (x : laid.Table). has x.number second.tables ≡ true)
@@ -306,31 +306,31 @@ module _ {H R W : Type 0} (bytes : H → Option (List ℕ)) (w : Writers W) (siz
   abbrev idles : List Segment
   idles = rising (filter (is_idle first) first.flushed)
 
-  all_wait : all_retired (retiring (l.version_number + 1) idle third).trash ≡ (installed o.job (made_of job o.job) l).retired
+  all_wait : all_retired (retiring (l.epoch + 1) idle third).trash ≡ (installed o.job (made_of job o.job) l).retired
   all_wait =
       ap (all_retired {L = Lent W s}) (switch_waits first gone falls t.live (head_in after) of third third_logs
-      ∙ ap (λ (rs : List (RetiredFile (Lent W s))). rs ++ gone_logs (l.version_number + 1) (log_numbers idles)) third_waits)
-      ∙ map-both retired_of ((kept.trash ++ all_left job.leavings.items) ++ gone_tables (l.version_number + 1) (numbers_of gone))
-      (gone_logs (l.version_number + 1) (log_numbers idles))
-      ∙ ap (λ (rs : List Retired). rs ++ all_retired {L = Lent W s} (gone_logs (l.version_number + 1) (log_numbers idles)))
-      (map-both retired_of (kept.trash ++ all_left job.leavings.items) (gone_tables (l.version_number + 1) (numbers_of gone))
-      ∙ ap (λ (rs : List Retired). rs ++ all_retired {L = Lent W s} (gone_tables (l.version_number + 1) (numbers_of gone)))
+      ∙ ap (λ (rs : List (RetiredFile (Lent W s))). rs ++ gone_logs (l.epoch + 1) (log_numbers idles)) third_waits)
+      ∙ map-both retired_of ((kept.trash ++ all_left job.leavings.items) ++ gone_tables (l.epoch + 1) (numbers_of gone))
+      (gone_logs (l.epoch + 1) (log_numbers idles))
+      ∙ ap (λ (rs : List Retired). rs ++ all_retired {L = Lent W s} (gone_logs (l.epoch + 1) (log_numbers idles)))
+      (map-both retired_of (kept.trash ++ all_left job.leavings.items) (gone_tables (l.epoch + 1) (numbers_of gone))
+      ∙ ap (λ (rs : List Retired). rs ++ all_retired {L = Lent W s} (gone_tables (l.epoch + 1) (numbers_of gone)))
       (map-both retired_of kept.trash (all_left job.leavings.items)
       ∙ ap (λ (rs : List Retired). rs ++ all_retired (all_left job.leavings.items))
       (ap (all_retired {L = Lent W s}) (used_waits before was.stock) ∙ (removes.stock running).trash)
       ∙ ap (λ (rs : List Retired). l.retired ++ rs) (retired_left job.leavings.items))
-      ∙ ap (λ (rs : List Retired). first.retired ++ rs) (retired_tables (Lent W s) (l.version_number + 1) gone))
-      ∙ ap (λ (rs : List Retired). (first.retired ++ map (retired_at (l.version_number + 1)) (map table_of gone)) ++ rs)
+      ∙ ap (λ (rs : List Retired). first.retired ++ rs) (retired_tables (Lent W s) (l.epoch + 1) gone))
+      ∙ ap (λ (rs : List Retired). (first.retired ++ map (retired_at (l.epoch + 1)) (map table_of gone)) ++ rs)
       (switch_retired first gone falls t.live (head_in after) of third third_logs)
-      ∙ append_assoc first.retired (map (retired_at (l.version_number + 1)) (map table_of gone))
-      (map (retired_at (l.version_number + 1)) (map log_of idles))
+      ∙ append_assoc first.retired (map (retired_at (l.epoch + 1)) (map table_of gone))
+      (map (retired_at (l.epoch + 1)) (map log_of idles))
       ∙ ap (λ (rs : List Retired). first.retired ++ rs)
-      (sym (map-both (retired_at (l.version_number + 1)) (map table_of gone) (map log_of idles)))
+      (sym (map-both (retired_at (l.epoch + 1)) (map table_of gone) (map log_of idles)))
 
   pub installed_stock : IsStockOf after now.stock (installed o.job (made_of job o.job) l)
   installed_stock =
-      is_stock after now.stock (installed o.job (made_of job o.job) l) (retiring (l.version_number + 1) idle third)
-      (subst (λ (ns : List ℕ). Has now.stock (retiring (l.version_number + 1) idle (tables_retired (l.version_number + 1) ns second)))
+      is_stock after now.stock (installed o.job (made_of job o.job) l) (retiring (l.epoch + 1) idle third)
+      (subst (λ (ns : List ℕ). Has now.stock (retiring (l.epoch + 1) idle (tables_retired (l.epoch + 1) ns second)))
       dropped_are
       (subst (λ v. Has now.stock (retiring v idle
       (tables_retired v (map number_of (filter (is_input (map number_of job.inputs.tables.items))
@@ -342,12 +342,12 @@ module _ {H R W : Type 0} (bytes : H → Option (List ℕ)) (w : Writers W) (siz
         logs = switch_logs first gone falls t.live (head_in after) of third third_logs;
       })
       all_wait
-      (all_more (λ (r : Retired). r.version_number ≤ l.version_number + 1) first.retired
-      (map (retired_at (l.version_number + 1)) (map table_of gone ++ map log_of idles))
-      (all_more (λ (r : Retired). r.version_number ≤ l.version_number + 1) l.retired (loose made_here.leavings)
-      (aged_more l.version_number (l.version_number + 1) (omega arith) l.retired (removes.stock running).aged)
-      (loose_aged (l.version_number + 1) made_here.leavings))
-      (just_retired (l.version_number + 1) (map table_of gone ++ map log_of idles)))
+      (all_more (λ (r : Retired). r.epoch ≤ l.epoch + 1) first.retired
+      (map (retired_at (l.epoch + 1)) (map table_of gone ++ map log_of idles))
+      (all_more (λ (r : Retired). r.epoch ≤ l.epoch + 1) l.retired (loose made_here.leavings)
+      (aged_more l.epoch (l.epoch + 1) (omega arith) l.retired (removes.stock running).aged)
+      (loose_aged (l.epoch + 1) made_here.leavings))
+      (just_retired (l.epoch + 1) (map table_of gone ++ map log_of idles)))
       (let small = now.stock.trash.small in omega (arith, small))
 
   pub installed_removes : now.pins ≡ (merge_pinned None was).pins → Removes after now (installed o.job (made_of job o.job) l)

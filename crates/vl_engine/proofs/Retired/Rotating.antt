@@ -66,7 +66,7 @@ module _ {H W : Type 0} {s : _} (bytes : H → Option (List ℕ)) (size : H → 
             ∙ sym (rotated_numbers l (sealed_below bytes before h l stands));
       })
       (ap all_retired (used_waits before was.stock) ∙ stock.trash)
-      (aged_more l.version_number (l.version_number + 1) (omega arith) l.retired stock.aged)
+      (aged_more l.epoch (l.epoch + 1) (omega arith) l.retired stock.aged)
       (let room = seals.is_ready.room.trash in
       let same = ap deque_len seals.trash in
       let size = ap deque_capacity seals.trash in

@@ -62,10 +62,10 @@ module _ {D W : Type 0} (g : Ghosts D) (w : Writers W) {s : _} {H : Type 0} (cor
     (old new : D) (merging : Option OpenMerge) (there : core.front.halted ≡ None → IsThere g w old core merging before.stock)
     (least : Option ℕ) where
   abbrev bound : ℕ
-  bound = up_to least core.back.version_number before.pins
+  bound = up_to least core.back.epoch before.pins
 
   abbrev files : List (RetiredFile (Lent W s))
-  files = ready (up_to least core.back.version_number before.pins) before.stock.trash.items
+  files = ready (up_to least core.back.epoch before.pins) before.stock.trash.items
 
   waits : core.front.halted ≡ None → AllByRecursion (IsWaiting g w old core.back.state.next_table) files
   waits runs = all_filtered (IsWaiting g w old core.back.state.next_table) _ before.stock.trash.items
@@ -190,7 +190,7 @@ module _ {D W : Type 0} (g : Ghosts D) (w : Writers W) {s : _} {H : Type 0} (cor
       once : AreOnce (files_of (all_retired files))
       once = subst (λ (rs : List Retired). AreOnce (files_of rs))
           (sym (ready_retired l before.pins before.stock.trash.items removes.pins (removes.stock (runs_of none)).trash
-          (removes.stock (runs_of none)).aged core.back.version_number is.stands.fronts.version least))
+          (removes.stock (runs_of none)).aged core.back.epoch is.stands.fronts.version least))
           (once_filtered _ l.retired is.stands.tidy.files.once)
 
       all_fit : (fs : List (RetiredFile (Lent W s))) → AllByRecursion (λ (file : RetiredFile (Lent W s)). MayGo held.base l file.name) fs
@@ -327,7 +327,7 @@ module _ {D W : Type 0} (g : Ghosts D) (w : Writers W) {s : _} {H : Type 0} (old
     (watched : IsWatched g) (lawful : (disk : D) (state : DiskState) → g.told disk ≡ Some state → IsLawful state)
     (bytes : H → Option (List ℕ)) where
   abbrev Did : Result ℕ SweepFail → Type 0
-  Did result = SweepsAs g w (up_to least old.core.back.version_number old.removing.pins) old.disk new.disk old.core new.core
+  Did result = SweepsAs g w (up_to least old.core.back.epoch old.removing.pins) old.disk new.disk old.core new.core
       old.removing new.removing result
 
   same_back : (result : Result ℕ SweepFail) → Did result → new.core.back ≡ old.core.back

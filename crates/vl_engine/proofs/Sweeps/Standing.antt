@@ -54,7 +54,7 @@ module _ {D W H : Type 0} (g : Ghosts D) (w : Writers W) {s : _} (old new : D) (
     (before now : Removing (Lent W s)) (h : History) (l : Layout) (is : StandsFor bytes core h l)
     (removes : Removes core before l) (least : Option ℕ) where
   abbrev pub bound : ℕ
-  bound = up_to least core.back.version_number before.pins
+  bound = up_to least core.back.epoch before.pins
 
   pub running : core.front.halted ≡ None → l.halted ≡ None
   running none = running_of core.front.halted l.halted is.fronts.halted none
@@ -64,15 +64,15 @@ module _ {D W H : Type 0} (g : Ghosts D) (w : Writers W) {s : _} (old new : D) (
     stock = removes.stock runs
 
     files_are : swept least l ≡ map (λ (file : RetiredFile (Lent W s)). file_of file.name) (ready bound before.stock.trash.items)
-    files_are = swept_are l before.pins before.stock.trash.items removes.pins stock.trash stock.aged core.back.version_number
+    files_are = swept_are l before.pins before.stock.trash.items removes.pins stock.trash stock.aged core.back.epoch
         is.fronts.version least
 
     pub count_is : length (swept least l) ≡ length (ready bound before.stock.trash.items)
-    count_is = swept_count l before.pins before.stock.trash.items removes.pins stock.trash stock.aged core.back.version_number
+    count_is = swept_count l before.pins before.stock.trash.items removes.pins stock.trash stock.aged core.back.epoch
         is.fronts.version least
 
     rest_are : all_retired (held bound before.stock.trash.items) ≡ (without_files (swept least l) l).retired
-    rest_are = left_are l before.pins before.stock.trash.items removes.pins stock.trash stock.aged core.back.version_number
+    rest_are = left_are l before.pins before.stock.trash.items removes.pins stock.trash stock.aged core.back.epoch
         is.fronts.version least is.tidy.files.once
 
   pub sweeps_for : (stands : History → Layout → Type 0) (result : Result ℕ SweepFail)
@@ -121,18 +121,18 @@ module _ {D W H : Type 0} (g : Ghosts D) (w : Writers W) {s : _} (old new : D) (
 
   -- ---- what is kept
 
-  pins_stay : PinsStay core.back.version_number before.pins now.pins → ArePinsOf now.pins l
+  pins_stay : PinsStay core.back.epoch before.pins now.pins → ArePinsOf now.pins l
   pins_stay stay = record {
     live = ⊎_elim
         (λ (same : now.pins.live ≡ before.pins.live). ap (λ (t : _). t.tickets) same ∙ removes.pins.live)
-        (λ (risen : now.pins.live ≡ raised core.back.version_number before.pins.live). ap (λ (t : _). t.tickets) risen ∙ removes.pins.live)
+        (λ (risen : now.pins.live ≡ raised core.back.epoch before.pins.live). ap (λ (t : _). t.tickets) risen ∙ removes.pins.live)
         stay.live;
     merge = stay.merge ∙ removes.pins.merge;
     pass = stay.pass ∙ removes.pins.pass;
     last = ⊎_elim
-        (λ (same : now.pins.live ≡ before.pins.live). subst (λ (t : _). t.last ≤ l.version_number) (sym same) removes.pins.last)
-        (λ (risen : now.pins.live ≡ raised core.back.version_number before.pins.live).
-        subst (λ (t : _). t.last ≤ l.version_number) (sym (risen ∙ ap (λ (v : ℕ). raised v before.pins.live) is.fronts.version))
+        (λ (same : now.pins.live ≡ before.pins.live). subst (λ (t : _). t.last ≤ l.epoch) (sym same) removes.pins.last)
+        (λ (risen : now.pins.live ≡ raised core.back.epoch before.pins.live).
+        subst (λ (t : _). t.last ≤ l.epoch) (sym (risen ∙ ap (λ (v : ℕ). raised v before.pins.live) is.fronts.version))
         (pins_raised before.pins l removes.pins).last)
         stay.live;
   }
@@ -165,7 +165,7 @@ module _ {D W H : Type 0} (g : Ghosts D) (w : Writers W) {s : _} (old new : D) (
       in_use = subst (λ (o : Option _). UsesThoseOf core.version.behind.logs.items o (without_files (swept least l) l)) (sym did.2.in_use)
           (uses_without core.version.behind.logs.items before.stock.in_use (swept least l) (stock runs).in_use);
       trash = ap all_retired did.2.waiting ∙ rest_are runs;
-      aged = all_filtered (λ (r : Retired). r.version_number ≤ l.version_number) _ l.retired (stock runs).aged;
+      aged = all_filtered (λ (r : Retired). r.epoch ≤ l.epoch) _ l.retired (stock runs).aged;
       room = let room = (stock runs).room in let capacity = did.2.capacity in
           let old_len = before.stock.trash.ok.0 in let new_len = now.stock.trash.ok.0 in
           let less = subst (λ (files : List (RetiredFile (Lent W s))). length files ≤ length before.stock.trash.items) (sym did.2.waiting)

@@ -42,7 +42,7 @@ impl<D: Disk> Engine<D> {
             → Decides (Represents D.Held.bytes self.new.core (D.told self.new.disk)) h l (begin_ruling l h) (as_before l l)
             (begin_outcome result) no_effects }
 
-        // What is kept of which files can go is what the layout has: its version number is pinned.
+        // What is kept of which files can go is what the layout has: its epoch is pinned.
         ensures removes { (h : History) (l : Layout) → Fronts self.old.core h l
             → Removes self.old.core self.old.removing l
             → Decides (λ _ l. Removes self.new.core self.new.removing l) h l (begin_ruling l h) (as_before l l)
@@ -77,7 +77,7 @@ impl<D: Disk> Engine<D> {
         ensures back { self.new.core.back ≡ self.old.core.back }
         ensures merging { self.new.merging ≡ self.old.merging }
         ensures collecting { self.new.collecting ≡ self.old.collecting }
-        ensures pins { PinsAs self.old.core.back.version_number self.old.removing.pins self.new.removing.pins result }
+        ensures pins { PinsAs self.old.core.back.epoch self.old.removing.pins self.new.removing.pins result }
         ensures stock { self.new.removing.stock ≡ self.old.removing.stock }
         ensures logs { self.new.core.version.behind.logs ≡ self.old.core.version.behind.logs }
     {
@@ -120,7 +120,7 @@ impl<D: Disk> Engine<D> {
         ensures back { self.new.core.back ≡ self.old.core.back }
         ensures merging { self.new.merging ≡ self.old.merging }
         ensures collecting { self.new.collecting ≡ self.old.collecting }
-        ensures pins { PinsAs self.old.core.back.version_number self.old.removing.pins self.new.removing.pins result }
+        ensures pins { PinsAs self.old.core.back.epoch self.old.removing.pins self.new.removing.pins result }
         ensures stock { self.new.removing.stock ≡ self.old.removing.stock }
         ensures logs { self.new.core.version.behind.logs ≡ self.old.core.version.behind.logs }
     {
@@ -132,7 +132,7 @@ impl<D: Disk> Engine<D> {
         match begin(
             &mut self.core.front,
             &mut self.removing.pins,
-            self.core.back.version_number,
+            self.core.back.epoch,
         ) {
             Ok(ticket) => Ok(View::new(
                 self.alloc,

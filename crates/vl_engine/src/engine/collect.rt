@@ -64,13 +64,13 @@ impl<D: Disk> Engine<D> {
             → Decides (λ _ l. Collects self.new.core self.new.collecting l) h l (pick_ruling l h percent) (as_before l l)
             (pick_outcome (pick_ruling l h percent).answer result) no_effects }
 
-        // What is kept of which files can go is what the layout has: its version number is pinned.
+        // What is kept of which files can go is what the layout has: its epoch is pinned.
         ensures removes { (h : History) (l : Layout) → StandsFor D.Held.bytes self.old.core h l
             → Collects self.old.core self.old.collecting l → Removes self.old.core self.old.removing l
             → Decides (λ _ l. Removes self.new.core self.new.removing l) h l (pick_ruling l h percent) (as_before l l)
             (pick_outcome (pick_ruling l h percent).answer result) no_effects }
         ensures stock { self.new.removing.stock ≡ self.old.removing.stock }
-        ensures removing { PinsPass self.old.core.back.version_number self.old.removing self.new.removing result }
+        ensures removing { PinsPass self.old.core.back.epoch self.old.removing self.new.removing result }
 
         // The pass does what the ruling's says, and has given nothing yet.
         ensures pass { (h : History) (l : Layout) → StandsFor D.Held.bytes self.old.core h l
@@ -119,7 +119,7 @@ impl<D: Disk> Engine<D> {
         ensures begins { IfOk result (BeginsOver D.Held.bytes self.old.core number) }
         ensures failed { IfErr result (LacksLog self.old.core number) }
         ensures collecting { BeginsPass self.old.collecting self.new.collecting number result }
-        ensures removing { PinsPass self.old.core.back.version_number self.old.removing self.new.removing result }
+        ensures removing { PinsPass self.old.core.back.epoch self.old.removing self.new.removing result }
         ensures core { self.new.core ≡ self.old.core }
         ensures disk { self.new.disk ≡ self.old.disk }
         ensures merging { self.new.merging ≡ self.old.merging }
@@ -135,7 +135,7 @@ impl<D: Disk> Engine<D> {
             return Err(PickFail::NoMemory);
         };
         self.collecting.passing = Some(number);
-        self.removing.pins.pass = Some(self.core.back.version_number);
+        self.removing.pins.pass = Some(self.core.back.epoch);
         Ok(Pass::new(Base::new(version), log))
     }
 

@@ -175,7 +175,7 @@ impl<D: Disk> Engine<D> {
                 self.core.version = version.with_table(Table::of(held, shape), active, &idle);
                 self.core.back.apply_flush(state);
                 let head = head_of(&self.core);
-                let version = self.core.back.version_number;
+                let version = self.core.back.epoch;
                 self.removing.switch(&[number], &[], &live, head, version);
                 self.collecting.switch(live, head);
                 Ok(Some(number))

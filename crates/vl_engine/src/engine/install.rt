@@ -29,7 +29,7 @@ ghost use Rattle.vl_engine_model.specs.declared.job.Job as laid_job;
 ghost use Rattle.vl_engine_model.specs.declared.job.OpenJob.{OpenJob};
 ghost use Rattle.vl_engine_model.specs.declared.layout.Layout.{Layout};
 ghost use Rattle.vl_model.specs.History.{History};
-ghost use Rattle.vl_model.specs.Limits.{max_version_number};
+ghost use Rattle.vl_model.specs.Limits.{max_epoch};
 ghost use Rattle.vl_table.specs.Tables.{number_of};
 ghost use Rattle.vl_version.specs.Bases.{is_input};
 ghost use Rattle.vl_version.specs.levels.LevelsLooked.{tables_of};
@@ -103,7 +103,7 @@ impl<D: Disk> Engine<D> {
         ensures stopped { (name : Name) → result ≡ Err (fails.Disk name)
             → StopsInstall job self.old.core.back.manifest.number (D.calls self.old.disk) (D.calls self.new.disk) name }
 
-        // It fails only where nothing failed before, a version number is left, and no deletion that the merge dropped stands
+        // It fails only where nothing failed before, an epoch is left, and no deletion that the merge dropped stands
         // against it. By then some of the tables were taken back, or all, and named in part; and whatever a crash leaves gives no
         // number above the next ones.
         ensures failed { InstallFailed result → MayInstall self.old.core }
@@ -152,19 +152,19 @@ impl<D: Disk> Engine<D> {
         }
         match self.raced(&job) {
             Ok(None) => self.install_unraced(job),
-            Ok(Some((key, version_number))) => {
+            Ok(Some((key, epoch))) => {
                 self.merging = None;
                 give_up(&mut self.removing, job);
                 Err(InstallFail::Raced {
                     key,
-                    version_number,
+                    epoch,
                 })
             }
             Err(_) => Err(InstallFail::NoMemory(job)),
         }
     }
 
-    // The least key of which the merge dropped a deletion and a record was relocated meanwhile, with the version number that this
+    // The least key of which the merge dropped a deletion and a record was relocated meanwhile, with the epoch that this
     // made.
     fn raced(
         &self,
@@ -198,7 +198,7 @@ impl<D: Disk> Engine<D> {
         ensures retires { InstallsStock job self.old.core self.new.core self.old.removing self.new.removing self.new.collecting.tally
             (length (lent_in self.old.merging)) result }
     {
-        if self.core.back.has_no_version() {
+        if self.core.back.has_no_epoch() {
             self.leave(job);
             return Err(InstallFail::Exhausted(Counter::Version));
         }
@@ -216,7 +216,7 @@ impl<D: Disk> Engine<D> {
     ) -> Result<(), InstallFail<Base<D::Held, D::Reader>, D::Held, D::Writer>>
         requires handed { IsHandedIn D.Watched D.Writer.Writer self.old.disk self.old.core.front.halted self.old.merging job }
         requires running { self.old.core.front.halted ≡ None }
-        requires version { self.old.core.back.version_number < max_version_number }
+        requires version { self.old.core.back.epoch < max_epoch }
         requires tallied { IsSome self.old.collecting.tally }
         requires live { LeadsFrom self.old.collecting.tally live (points_made job.made.items) (points_in
             (filter (is_input (map number_of job.inputs.tables.items)) (tables_of self.old.core.version.behind.levels))) }
@@ -272,7 +272,7 @@ impl<D: Disk> Engine<D> {
                 self.core.version = version.with_levels(levels.into_levels(), active, &idle);
                 self.core.back.apply_install(staged.state);
                 let head = head_of(&self.core);
-                let version = self.core.back.version_number;
+                let version = self.core.back.epoch;
                 leave_files(&mut self.removing.stock, Vec::new(self.alloc), leavings);
                 self.removing.switch(&added, &dropped, &live, head, version);
                 self.collecting.switch(live, head);

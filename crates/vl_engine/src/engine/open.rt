@@ -174,7 +174,7 @@ impl<D: Disk> Engine<D> {
                     manifest,
                     state,
                     next_log,
-                    version_number: 0,
+                    epoch: 0,
                     waiting,
                 },
             },

@@ -56,13 +56,13 @@ impl<D: Disk> Engine<D> {
             → Decides (Fits (D.told self.new.disk) self.new.core) h l (plan_ruling l h) (as_before l l)
             (plan_outcome (plan_ruling l h).answer result) no_effects }
 
-        // What is kept of which files can go is what the layout has: its version number is pinned.
+        // What is kept of which files can go is what the layout has: its epoch is pinned.
         ensures removes { (h : History) (l : Layout) → StandsOpen D.Held.bytes self.old.core self.old.merging h l
             → Removes self.old.core self.old.removing l
             → Decides (λ _ l. Removes self.new.core self.new.removing l) h l (plan_ruling l h) (as_before l l)
             (plan_outcome (plan_ruling l h).answer result) no_effects }
         ensures stock { self.new.removing.stock ≡ self.old.removing.stock }
-        ensures removing { PinsMerge self.old.core.back.version_number self.old.removing self.new.removing result }
+        ensures removing { PinsMerge self.old.core.back.epoch self.old.removing self.new.removing result }
 
         // The merge does what the ruling's job says, and has made nothing yet.
         ensures job { (h : History) (l : Layout) → StandsOpen D.Held.bytes self.old.core self.old.merging h l
@@ -116,13 +116,13 @@ impl<D: Disk> Engine<D> {
             → Decides (Fits (D.told self.new.disk) self.new.core) h l (drain_ruling l h segment) (as_before l l)
             (plan_outcome (drain_ruling l h segment).answer result) no_effects }
 
-        // What is kept of which files can go is what the layout has: its version number is pinned.
+        // What is kept of which files can go is what the layout has: its epoch is pinned.
         ensures removes { (h : History) (l : Layout) → StandsOpen D.Held.bytes self.old.core self.old.merging h l
             → Removes self.old.core self.old.removing l
             → Decides (λ _ l. Removes self.new.core self.new.removing l) h l (drain_ruling l h segment) (as_before l l)
             (plan_outcome (drain_ruling l h segment).answer result) no_effects }
         ensures stock { self.new.removing.stock ≡ self.old.removing.stock }
-        ensures removing { PinsMerge self.old.core.back.version_number self.old.removing self.new.removing result }
+        ensures removing { PinsMerge self.old.core.back.epoch self.old.removing self.new.removing result }
 
         // The merge does what the ruling's job says, and has made nothing yet.
         ensures job { (h : History) (l : Layout) → StandsOpen D.Held.bytes self.old.core self.old.merging h l
@@ -183,7 +183,7 @@ impl<D: Disk> Engine<D> {
             self.new.core.front.halted self.new.merging)) }
         ensures looks { (h : History) (l : Layout) → StandsFor D.Held.bytes self.old.core h l
             → IfOk result (λ job. ForSome job (FitsReaders D.Held.bytes)) }
-        ensures removing { PinsMerge self.old.core.back.version_number self.old.removing self.new.removing result }
+        ensures removing { PinsMerge self.old.core.back.epoch self.old.removing self.new.removing result }
         ensures merging { OpensMerge self.old.merging self.new.merging result }
         ensures core { self.new.core ≡ self.old.core }
         ensures disk { self.new.disk ≡ self.old.disk }
@@ -207,7 +207,7 @@ impl<D: Disk> Engine<D> {
         ensures under_way { IfOk result (λ job. IsUnderWay D.Watched D.Writer.Writer self.new.disk self.new.core.front.halted
             self.new.merging job) }
         ensures begun { OnOk result (IsJustOpen self.new.merging) }
-        ensures pinned { OnOk result (self.new.removing ≡ merge_pinned (Some self.old.core.back.version_number) self.old.removing) }
+        ensures pinned { OnOk result (self.new.removing ≡ merge_pinned (Some self.old.core.back.epoch) self.old.removing) }
         ensures unpinned { OnErr result (self.new.removing ≡ self.old.removing) }
         ensures core { self.new.core ≡ self.old.core }
         ensures disk { self.new.disk ≡ self.old.disk }
@@ -218,7 +218,7 @@ impl<D: Disk> Engine<D> {
         let floor = self.core.front.oracle.floor();
         let keep = self.core.back.state.keep;
         self.merging = Some(OpenMerge::new(self.alloc));
-        self.removing.pins.merge = Some(self.core.back.version_number);
+        self.removing.pins.merge = Some(self.core.back.epoch);
         Ok(Job::new(self.alloc, Base::new(version), inputs, floor, keep))
     }
 

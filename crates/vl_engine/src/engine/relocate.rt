@@ -22,7 +22,7 @@ ghost use Rattle.vl_engine_model.specs.declared.layout.Layout.{Layout};
 ghost use Rattle.vl_engine_model_laws.specs.Passes.{IsSettled};
 ghost use Rattle.vl_model.specs.Formats.{log_format};
 ghost use Rattle.vl_model.specs.History.{History, last_number};
-ghost use Rattle.vl_model.specs.Limits.{max_version_number};
+ghost use Rattle.vl_model.specs.Limits.{max_epoch};
 ghost use Rattle.vl_model.specs.declared.log_frame.LogFrame.TheVariants.{Relocated};
 ghost use Rattle.vl_seglog.specs.Frames.{frame_at};
 ghost use Rattle.vl_version.specs.Bases as bases;
@@ -32,7 +32,7 @@ ghost use Rattle.vl_space.specs.Removing.{Removes};
 use crate::{Engine, MoveFail};
 use vl_collect::{Batch, Pass};
 use vl_disk::{Disk, DiskFail, Name, ReadFault};
-use vl_model::{Counter, MAX_VERSION_NUMBER, Moved};
+use vl_model::{Counter, MAX_EPOCH, Moved};
 use vl_seglog::ActiveLog;
 use vl_steps::{
     StagedMove, append_durably, has_room, move_length, note_moves, records_to_move, stage_move,
@@ -124,17 +124,17 @@ impl<D: Disk> Engine<D> {
             → StopsWriting D.Watched (names.Log l.active.number) (frame_at log_format l.active.number l.active.length
             (Relocated (moved_of (sources l) p.segment (last_number h) batch))) self.old.disk self.new.disk }
 
-        // The same files stand. What steps need stays but for the version number, which is one more where something was moved, and
+        // The same files stand. What steps need stays but for the epoch, which is one more where something was moved, and
         // what the sealed logs are and what is kept of passes stays.
         ensures files { SameFiles (D.told self.old.disk) (D.told self.new.disk) }
         ensures steps { self.new.core.back ≡ record self.old.core.back
-            { version_number = moved_version result self.old.core.back.version_number } }
+            { epoch = moved_version result self.old.core.back.epoch } }
         ensures logs { self.new.core.version.behind ≡ self.old.core.version.behind }
         ensures collecting { self.new.collecting ≡ self.old.collecting }
         ensures removing { self.new.removing ≡ self.old.removing }
 
         // What was moved is noted for the open merge, and the reader fits the sources as before.
-        ensures merging { MoveNotes self.old.core.back.version_number self.old.merging self.new.merging result }
+        ensures merging { MoveNotes self.old.core.back.epoch self.old.merging self.new.merging result }
         ensures fits_looks { bases.Fits D.Held.bytes self.old.core.version looks.old
             → bases.Fits D.Held.bytes self.new.core.version looks.new }
     {
@@ -175,7 +175,7 @@ impl<D: Disk> Engine<D> {
         if moved.is_empty() {
             return Ok(0);
         }
-        if self.core.back.version_number >= MAX_VERSION_NUMBER {
+        if self.core.back.epoch >= MAX_EPOCH {
             let counter = Counter::Version;
             return Err(MoveFail::Exhausted { batch, counter });
         }
@@ -202,14 +202,14 @@ impl<D: Disk> Engine<D> {
     // Writes records again, which may be moved.
     fn write_moves(&mut self, moved: &[Moved]) -> Result<u32, DiskFail>
         requires may { MayMove self.old.core moved.now }
-        requires left { self.old.core.back.version_number < max_version_number }
+        requires left { self.old.core.back.epoch < max_epoch }
         ensures as_written { WritesMove D.Watched self.old.disk self.new.disk self.old.core self.new.core self.old.merging
             self.new.merging moved.now result }
         ensures cause { HasCause (D.faults self.old.disk) (D.faults self.new.disk) (IsErrOf result why.Failed) }
         ensures collecting { self.new.collecting ≡ self.old.collecting }
         ensures removing { self.new.removing ≡ self.old.removing }
     {
-        let number = self.core.back.version_number + 1;
+        let number = self.core.back.epoch + 1;
         let Ok(staged) = stage_move(
             self.alloc,
             &mut self.disk,
@@ -237,7 +237,7 @@ impl<D: Disk> Engine<D> {
         };
         self.core.front.log = log;
         self.core.version.set_active(active);
-        self.core.back.version_number = number;
+        self.core.back.epoch = number;
         note_moves(&mut self.merging, notes);
         Ok(count)
     }

@@ -32,7 +32,7 @@ impl<D: Disk> Engine<D> {
     // The same, where there may be such a number.
     fn sweep_up_to(&mut self, least: Option<u64>) -> Result<u64, SweepFail>
         ensures as_swept { SweepsAs D.Watched D.Writer.Writer
-            (up_to least self.old.core.back.version_number self.old.removing.pins) self.old.disk self.new.disk self.old.core
+            (up_to least self.old.core.back.epoch self.old.removing.pins) self.old.disk self.new.disk self.old.core
             self.new.core self.old.removing self.new.removing result }
         ensures cause { HasCause (D.faults self.old.disk) (D.faults self.new.disk) (SweepFailed result) }
         ensures merging { self.new.merging ≡ self.old.merging }
@@ -57,15 +57,15 @@ impl<D: Disk> Engine<D> {
 
     // What was retired up to this number is held by nothing.
     fn bound(&mut self, least: Option<u64>) -> u64
-        ensures bound { result ≡ up_to least self.old.core.back.version_number self.old.removing.pins }
+        ensures bound { result ≡ up_to least self.old.core.back.epoch self.old.removing.pins }
         ensures pins { self.new.removing ≡ record self.old.removing { pins = self.new.removing.pins } }
-        ensures raised { PinsStay self.old.core.back.version_number self.old.removing.pins self.new.removing.pins }
+        ensures raised { PinsStay self.old.core.back.epoch self.old.removing.pins self.new.removing.pins }
         ensures core { self.new.core ≡ self.old.core }
         ensures disk { self.new.disk ≡ self.old.disk }
         ensures merging { self.new.merging ≡ self.old.merging }
         ensures collecting { self.new.collecting ≡ self.old.collecting }
     {
-        let bound = self.removing.pins.bound(self.core.back.version_number);
+        let bound = self.removing.pins.bound(self.core.back.epoch);
         match least {
             None => bound,
             Some(least) => least.min(bound),

@@ -47,7 +47,7 @@ use Rattle.vl_seglog.specs.laws.FrameLaws.{frames_end-more}
 
 -- the layout with the frame, and with what else memory has of it then
 abbrev pub with_more : LogFrame → List Live → ℕ → Option OpenJob → Layout → Layout
-with_more f live version job l = record (logged f l) { live = live; version_number = version; job = job }
+with_more f live version job l = record (logged f l) { live = live; epoch = version; job = job }
 
 -- the frame goes on from the one history's last number to the other's
 abbrev pub LeadsOn : Layout → LogFrame → (h longer : History) → Type 0

@@ -41,7 +41,7 @@ module _ (job : Option OpenJob) (retired : List Retired) (next : ℕ) (h : Histo
   }
 
   pub fronts_aside : {H : Type 0} (before after : Core H) → after.front ≡ before.front
-      → after.back.version_number ≡ before.back.version_number → after.back.state.keep ≡ before.back.state.keep
+      → after.back.epoch ≡ before.back.epoch → after.back.state.keep ≡ before.back.state.keep
       → after.back.state.since ≡ before.back.state.since → Fronts before h l → Fronts after h then
   fronts_aside before after front version keep since is = record {
     front = subst (λ (f : Front). IsFront f.oracle f.recent.named h then) (sym front)

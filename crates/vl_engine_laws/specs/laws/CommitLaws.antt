@@ -62,22 +62,22 @@ module _ (b : Base) (l : Layout) (h : History) (t : Transaction) (base : IsBase 
   -- The same base is that of the layout with the commit.
   pub commit_base : Spares (at_rest (committed l h t).layout) (with_commit h (from_sorted t.writes))
       → IsBase b (committed l h t).layout (with_commit h (from_sorted t.writes))
-  commit_base = appended_base b l h frame live l.version_number l.job longer extends up leads base tidy
+  commit_base = appended_base b l h frame live l.epoch l.job longer extends up leads base tidy
 
   module _ (disk : DiskState) (holds : Holds b l disk)
       (has : HasFrame (frames_grammar l.active.format) (commit_frame h t.writes)) where
     -- After both calls the disk holds it.
     pub commit_holds : Holds b (committed l h t).layout (writing.written log_name bytes disk)
-    commit_holds = appended_holds b l h frame live l.version_number l.job longer extends up leads base tidy disk holds has
+    commit_holds = appended_holds b l h frame live l.epoch l.job longer extends up leads base tidy disk holds has
 
     -- Whatever a crash leaves while the frame is written shows the history, or the one with the commit.
     pub commit_shows : IsTidy (layout_logs l) (committed l h t).layout (with_commit h (from_sorted t.writes))
         → Spares (at_rest (committed l h t).layout) (with_commit h (from_sorted t.writes))
         → (now : DiskState) → WhileWriting log_name bytes disk now
         → LeavesBetween h (with_commit h (from_sorted t.writes)) now
-    commit_shows = writing_shows b l h frame live l.version_number l.job longer extends up leads base tidy disk holds has
+    commit_shows = writing_shows b l h frame live l.epoch l.job longer extends up leads base tidy disk holds has
 
     -- A store may be opened on the disk again, also where that failed.
     pub commit_opens_again : (now : DiskState) → WhileWriting log_name bytes disk now → MayOpen now
     commit_opens_again =
-        writing_opens_again b l h frame live l.version_number l.job longer extends up leads base tidy disk holds has
+        writing_opens_again b l h frame live l.epoch l.job longer extends up leads base tidy disk holds has

@@ -299,7 +299,7 @@ module _ (b : Base) (l : Layout) (h : History) (s : Segment) (disk : DiskState) 
         levels = in_front (flushed_table l s) l.levels;
         covered = covered_by s.frames l.covered;
         next_table = l.next_table + 1;
-        version_number = l.version_number + 1;
+        epoch = l.epoch + 1;
       }
 
   -- ---- and is named by the switch

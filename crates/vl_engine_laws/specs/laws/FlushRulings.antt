@@ -9,7 +9,7 @@ use Rattle.vl_back.specs.declared.back.Back.{Back}
 use Rattle.vl_back.specs.declared.decision.Decision.{Decision}
 use Rattle.vl_back.specs.declared.decision.Decision.TheVariants as decisions
 use Rattle.vl_engine_laws.specs.MayStep.{HasNumbers}
-use Rattle.vl_engine_model.specs.Ruling.{Exhausted, Halted, Idle, Ruling, StepAnswer, Stepped, has_no_number, has_no_version, leaving}
+use Rattle.vl_engine_model.specs.Ruling.{Exhausted, Halted, Idle, Ruling, StepAnswer, Stepped, has_no_number, has_no_epoch, leaving}
 use Rattle.vl_engine_model.specs.Rulings.Flush.{flush_of, flush_ruling, flush_unless, flushed}
 use Rattle.vl_engine_model.specs.Sources.{oldest}
 use Rattle.vl_engine_model.specs.Start.{newest_first}
@@ -18,7 +18,7 @@ use Rattle.vl_engine_model.specs.declared.layout.Layout.{Layout}
 use Rattle.vl_engine_model.specs.declared.segment.Segment.{Segment}
 use Rattle.vl_manifest.specs.declared.waiting.Waiting.{Waiting}
 use Rattle.vl_model.specs.History.{History}
-use Rattle.vl_model.specs.Limits.{max_file_number, max_version_number}
+use Rattle.vl_model.specs.Limits.{max_file_number, max_epoch}
 use Rattle.vl_model.specs.declared.counter.Counter.TheVariants as counter
 use Rattle.vl_recover.specs.opening.HeldFiles.{AreWaiting}
 
@@ -60,7 +60,7 @@ some_frozen : (covered : ℕ) (w : Waiting) (ws : List Waiting) (ss : List Segme
 some_frozen covered w ws [] are = absurd are
 some_frozen covered w ws (s ∷ ss) are = some_oldest s ss
 
-module _ (back : Back) (l : Layout) (h : History) (running : l.halted ≡ None) (version : back.version_number ≡ l.version_number)
+module _ (back : Back) (l : Layout) (h : History) (running : l.halted ≡ None) (version : back.epoch ≡ l.epoch)
     (has : HasNumbers back l) where
   -- Where a log waits for its flush, one is frozen.
   pub flush_waits : 1 ≤ length back.waiting.items → (s : Segment) × (oldest l.frozen ≡ Some s)
@@ -74,7 +74,7 @@ module _ (back : Back) (l : Layout) (h : History) (running : l.halted ≡ None) 
   no_number : nat_lt max_file_number back.state.next_table ≡ has_no_number l.next_table 1
   no_number = let same = has.next_table in grind (arith, nat_tests, same)
 
-  no_version : nat_le max_version_number back.version_number ≡ has_no_version l
+  no_version : nat_le max_epoch back.epoch ≡ has_no_epoch l
   no_version = grind (arith, nat_tests, version)
 
   -- by whether a number is left, and whether a version's is
@@ -99,8 +99,8 @@ module _ (back : Back) (l : Layout) (h : History) (running : l.halted ≡ None) 
   of_waiting [] are = sym (ap (flush_of l h) (none_frozen l.covered l.frozen are))
   of_waiting (w ∷ ws) are =
       let (s, waits) = some_frozen l.covered w ws l.frozen are in
-      decided_so s waits (nat_lt max_file_number back.state.next_table) (nat_le max_version_number back.version_number)
-      ∙ ap (λ (b : Bool). by_numbers s b (nat_le max_version_number back.version_number)) no_number
+      decided_so s waits (nat_lt max_file_number back.state.next_table) (nat_le max_epoch back.epoch)
+      ∙ ap (λ (b : Bool). by_numbers s b (nat_le max_epoch back.epoch)) no_number
       ∙ ap (by_numbers s (has_no_number l.next_table 1)) no_version
       ∙ sym (ap (flush_of l h) waits)
 

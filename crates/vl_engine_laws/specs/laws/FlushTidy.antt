@@ -145,7 +145,7 @@ module _ (l : Layout) (h : History) (s : Segment) (tidy : IsTidy (layout_logs l)
         levels = in_front (flushed_table l s) l.levels;
         covered = next.covered;
         next_table = next.next_table;
-        version_number = next.version_number;
+        epoch = next.epoch;
       }
 
   -- and so is the one that is flushed.

@@ -3,7 +3,7 @@ use Rattle.std.specs.Prelude.{◌≡◌, ℕ, nat_le, Bool, true, false, if◌th
 use Rattle.std.proofs.Common.{sym, ap, ◌∙◌, arith}
 use Rattle.std.proofs.lemmas.Bool.Decides.{nat_tests}
 use Rattle.vl_engine_model.specs.Jobs.{Made, job_ended}
-use Rattle.vl_engine_model.specs.Ruling.{Ruling, has_no_version, leaving}
+use Rattle.vl_engine_model.specs.Ruling.{Ruling, has_no_epoch, leaving}
 use Rattle.vl_engine_model.specs.Rulings.Install.{Exhausted, Halted, InstallAnswer, Installed, Raced, install_checked}
 use Rattle.vl_engine_model.specs.Rulings.Install.{install_ruling, install_unless, installed, moved_since, race}
 use Rattle.vl_engine_model.specs.declared.file_name.FileName.{FileName}
@@ -12,7 +12,7 @@ use Rattle.vl_engine_model.specs.declared.job.OpenJob.{OpenJob}
 use Rattle.vl_engine_model.specs.declared.layout.Layout.{Layout}
 use Rattle.vl_model.specs.Conflicts.{Named}
 use Rattle.vl_model.specs.History.{History}
-use Rattle.vl_model.specs.Limits.{max_version_number}
+use Rattle.vl_model.specs.Limits.{max_epoch}
 use Rattle.vl_model.specs.declared.counter.Counter.TheVariants as counter
 
 -- what it is where the job's tables are put in
@@ -20,12 +20,12 @@ abbrev pub install_made : Layout → History → OpenJob → Made → Ruling Ins
 install_made l h o made =
     record { answer = Installed; history = h; layout = installed o.job made l; calls = 2; gone = [] }
 
--- What lets an install go on: nothing failed, no deletion that it dropped was moved meanwhile, and a version number is left.
+-- What lets an install go on: nothing failed, no deletion that it dropped was moved meanwhile, and an epoch is left.
 pub record GoesOn (l : Layout) (o : OpenJob) : Type 0 where
   pub running : l.halted ≡ None
   pub open_is : l.job ≡ Some o
   pub unraced : race o.job o.moved ≡ None
-  pub version : has_no_version l ≡ false
+  pub version : has_no_epoch l ≡ false
 
 -- Where a call failed before,
 pub install_halted : (l : Layout) (h : History) (job : Job) (made : Made) (name : FileName) → l.halted ≡ Some name
@@ -43,13 +43,13 @@ module _ (l : Layout) (h : History) (o : OpenJob) (made : Made) (running : l.hal
       → leaving (Raced named.0 named.1) h (job_ended made l) ≡ install_ruling l h o.job made
   install_raced named raced = sym (by_race (Some named) raced)
 
-  by_version : race o.job o.moved ≡ None → (b : Bool) → has_no_version l ≡ b → install_ruling l h o.job made
+  by_version : race o.job o.moved ≡ None → (b : Bool) → has_no_epoch l ≡ b → install_ruling l h o.job made
       ≡ (if b then leaving (Exhausted counter.Version) h (job_ended made l) else install_made l h o made)
   by_version unraced b is = by_race None unraced
       ∙ ap (λ (c : Bool). if c then leaving (Exhausted counter.Version) h (job_ended made l) else install_made l h o made) is
 
-  -- where no version number is left,
-  pub install_exhausted : race o.job o.moved ≡ None → has_no_version l ≡ true
+  -- where no epoch is left,
+  pub install_exhausted : race o.job o.moved ≡ None → has_no_epoch l ≡ true
       → leaving (Exhausted counter.Version) h (job_ended made l) ≡ install_ruling l h o.job made
   install_exhausted unraced used = sym (by_version unraced true used)
 
@@ -59,6 +59,6 @@ pub install_made_so : (l : Layout) (h : History) (o : OpenJob) (made : Made) →
 install_made_so l h o made goes = sym (by_version l h o made goes.running goes.open_is goes.unraced false goes.version)
 
 -- Whether one is left is told by the number of the version.
-pub install_version : (l : Layout) (version : ℕ) → version ≡ l.version_number
-    → nat_le max_version_number version ≡ has_no_version l
+pub install_version : (l : Layout) (version : ℕ) → version ≡ l.epoch
+    → nat_le max_epoch version ≡ has_no_epoch l
 install_version l version is = grind (arith, nat_tests, is)

@@ -16,7 +16,7 @@ use Rattle.vl_engine_model.specs.Logs.{memtable}
 use Rattle.vl_engine_model.specs.Marks.{kept_of}
 use Rattle.vl_engine_model.specs.Merging.{Sourced, if_so, inputs_of, kept, merged_entries, outputs, outside_of}
 use Rattle.vl_engine_model.specs.OpenJobs.{IsFitted, IsKeptFor, IsOpenWell, IsRoomy, Preceded, preceded}
-use Rattle.vl_engine_model.specs.Ruling.{Ruling, has_no_number, has_no_version}
+use Rattle.vl_engine_model.specs.Ruling.{Ruling, has_no_number, has_no_epoch}
 use Rattle.vl_engine_model.specs.Rulings.Abandon.{abandon_ruling}
 use Rattle.vl_engine_model.specs.Rulings.Fresh.{fresh_ruling, fresh_unless}
 use Rattle.vl_engine_model.specs.Rulings.Install.{install_checked, install_ruling, install_unless, installed, moved_since, race}
@@ -297,7 +297,7 @@ module _ (l : Layout) (h : History) (spared : Spares l h) where
       where
         checked : (raced : Option Named) → SparesRuled (install_checked l h o.job made raced)
         checked (Some named) = spared
-        checked None = either (has_no_version l) _ _ spared (spares_installed l h o.job o.moved made k all spared)
+        checked None = either (has_no_epoch l) _ _ spared (spares_installed l h o.job o.moved made k all spared)
 
         unless : (halted : Option FileName) → SparesRuled (install_unless halted l h o.job made)
         unless (Some name) = spared

@@ -42,7 +42,7 @@ with_table l s = record l {
   levels = in_front (flushed_table l s) l.levels;
   covered = covered_by s.frames l.covered;
   next_table = l.next_table + 1;
-  version_number = l.version_number + 1;
+  epoch = l.epoch + 1;
 }
 
 -- what lies side by side does so without the last of each,

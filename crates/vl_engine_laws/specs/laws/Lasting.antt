@@ -11,7 +11,7 @@ use Rattle.vl_engine_model.specs.Garbage.{best}
 use Rattle.vl_engine_model.specs.Jobs.{Made, job_ended}
 use Rattle.vl_engine_model.specs.Levels.{due_from, in_front, inputs_at}
 use Rattle.vl_engine_model.specs.Relocation.{Candidate, Pass, moved_of}
-use Rattle.vl_engine_model.specs.Ruling.{Ruling, ended, halted_at, has_no_number, has_no_version, is_idle}
+use Rattle.vl_engine_model.specs.Ruling.{Ruling, ended, halted_at, has_no_number, has_no_epoch, is_idle}
 use Rattle.vl_engine_model.specs.Rulings.Abandon.{abandon_ruling}
 use Rattle.vl_engine_model.specs.Rulings.Begin.{begin_ruling, begun}
 use Rattle.vl_engine_model.specs.Rulings.Commit.{Transaction, commit_checked, commit_frame, commit_ruling, commit_running}
@@ -64,7 +64,7 @@ flushed_wider l s waits distinct n log at =
       levels = in_front (flushed_table l s) l.levels;
       covered = (flushed l s).covered;
       next_table = l.next_table + 1;
-      version_number = l.version_number + 1;
+      epoch = l.epoch + 1;
     }
 
 -- and behind an install.
@@ -148,7 +148,7 @@ module _ {H : Type 0} (bytes : H → Option (List ℕ)) (log : SealedLog H) (l :
   rotate_by drawn [] = lasts
   rotate_by drawn (f ∷ fs) =
       either (has_no_number l.next_log 1) _ _ lasts
-      (either (has_no_version l) _ _ lasts (lasts_rotated bytes log l lasts drawn))
+      (either (has_no_epoch l) _ _ lasts (lasts_rotated bytes log l lasts drawn))
 
   rotate_halted : l.active.number < l.next_log → (halted : Option FileName) → LastsRuled (rotate_unless halted l h)
   rotate_halted drawn (Some name) = lasts
@@ -163,7 +163,7 @@ module _ {H : Type 0} (bytes : H → Option (List ℕ)) (log : SealedLog H) (l :
   flush_by distinct None waits = lasts
   flush_by distinct (Some s) waits =
       either (has_no_number l.next_table 1) _ _ lasts
-      (either (has_no_version l) _ _ lasts
+      (either (has_no_epoch l) _ _ lasts
       (lasts_by bytes log l lasts (flushed l s) (flushed_wider l s waits distinct) refl))
 
   flush_halted : AreDistinct (log_numbers (sealed l)) → (halted : Option FileName) → LastsRuled (flush_unless halted l h)
@@ -203,7 +203,7 @@ module _ {H : Type 0} (bytes : H → Option (List ℕ)) (log : SealedLog H) (l :
       → LastsRuled (install_checked l h job made raced)
   install_by distinct job made (Some named) = job_ended_lasts made
   install_by distinct job made None =
-      either (has_no_version l) _ _ (job_ended_lasts made)
+      either (has_no_epoch l) _ _ (job_ended_lasts made)
       (lasts_by bytes log l lasts (installed job made l) (installed_wider l job made distinct) refl)
 
   install_halted : AreDistinct (log_numbers (sealed l)) → (halted : Option FileName) (job : Job) (made : Made)
@@ -229,7 +229,7 @@ module _ {H : Type 0} (bytes : H → Option (List ℕ)) (log : SealedLog H) (l :
   relocate_by : (moved : List Moved) → LastsRuled (relocate_of l h moved)
   relocate_by [] = lasts
   relocate_by (m ∷ ms) =
-      either (has_no_version l) _ _ lasts
+      either (has_no_epoch l) _ _ lasts
       (either (nat_le (l.active.length + frame_length l.active.format (Relocated (m ∷ ms))) l.room) _ _
       (same (relocated l (m ∷ ms)) refl refl) lasts)
 

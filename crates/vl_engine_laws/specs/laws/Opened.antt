@@ -123,7 +123,7 @@ pub record IsMadeOf {D H : Type 0} (parts : Parts D H) (room : ℕ) (core : Core
   pub state : core.back.state ≡ parts.state
   pub next_log : core.back.next_log ≡ max parts.state.next_log (min (parts.active.number + 1) (2 ^ 32 - 1))
   pub manifest : core.back.manifest ≡ parts.manifest
-  pub version_number : core.back.version_number ≡ 0
+  pub epoch : core.back.epoch ≡ 0
   pub waiting : core.back.waiting.items ≡ parts.waiting.items
   pub active : core.version.active ≡ record { entries = []; lengths = [] }
   pub frozen : core.version.behind.frozen.items ≡ reverse parts.frozen.items
@@ -188,7 +188,7 @@ module _ {D H : Type 0} (parts : Parts D H) (room : ℕ) (core : Core H) (made :
       long = subst (λ (m : ManifestLog). IsAsLong core.back.state m) (sym made.manifest)
           (subst (λ (s : ManifestState). IsAsLong s parts.manifest) (sym made.state) long);
       waiting = subst (λ (ws : List Waiting). AreWaiting found.opening.state.covered ws found.opening.logs) (sym made.waiting) waiting;
-      version_number = made.version_number;
+      epoch = made.epoch;
     }
 
     number_found : parts.number ≡ found.opening.number
@@ -238,7 +238,7 @@ module _ {D H : Type 0} (parts : Parts D H) (room : ℕ) (core : Core H) (made :
         room = made.room_is;
         roomy = roomy;
         halted = ap (option_map file_of) made.halted;
-        version = made.version_number;
+        version = made.epoch;
         keep = ap (λ (s : ManifestState). s.keep) (made.state ∙ parts_state);
         since = ap (λ (s : ManifestState). s.since) (made.state ∙ parts_state);
       }

@@ -46,7 +46,7 @@ use Rattle.vl_seglog.specs.Frames.{frame_at, frames_grammar}
 
 -- The same base is held with the records.
 pub represents_relocated : {H : Type 0} (bytes : H → Option (List ℕ)) (core after : Core H) (h : History) (l : Layout)
-    (moved : List Moved) → after.back ≡ record core.back { version_number = core.back.version_number + 1 }
+    (moved : List Moved) → after.back ≡ record core.back { epoch = core.back.epoch + 1 }
     → (new : Option DiskState) (state : DiskState) (b : Base) → IsBack core.back b l → new ≡ Some state
     → IsBase b (relocated l moved) h → Holds b (relocated l moved) state → AreBegun b.state.next_table l.next_table state
     → StandsFor bytes after h (relocated l moved) → Represents bytes after new h (relocated l moved)
@@ -216,7 +216,7 @@ module _ {D : Type 0} (g : Ghosts D) (watched : IsWatched g) {H : Type 0} (bytes
         frame frame_is time shows opens
 
     represents_then : (after : Core H) → g.told new ≡ Some (written name whole held.state)
-        → after.back ≡ record core.back { version_number = core.back.version_number + 1 }
+        → after.back ≡ record core.back { epoch = core.back.epoch + 1 }
         → StandsFor bytes after h (relocated l moved) → Represents bytes after (g.told new) h (relocated l moved)
     represents_then after told back stands =
         represents_relocated bytes core after h l moved back (g.told new) (written name whole held.state) held.base held.back_is told
@@ -228,7 +228,7 @@ module _ {D : Type 0} (g : Ghosts D) (watched : IsWatched g) {H : Type 0} (bytes
     -- It was written,
     written_carries : (after : Core H) → g.told new ≡ Some (written name whole held.state)
         → g.calls new ≡ after_calls 2 (g.calls hands.mid)
-        → after.back ≡ record core.back { version_number = core.back.version_number + 1 }
+        → after.back ≡ record core.back { epoch = core.back.epoch + 1 }
         → StandsFor bytes after h (relocated l moved)
         → Carries g bytes old new after h l (moving l h moved) (as_before l l) (Answered (Moves (length moved)))
         (record no_effects { calls = 2 })

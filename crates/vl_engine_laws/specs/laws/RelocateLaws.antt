@@ -37,7 +37,7 @@ module _ (b : Base) (l : Layout) (h : History) (moved : List Moved) (base : IsBa
   log_name = Log l.active.number
 
   abbrev job : Option OpenJob
-  job = with_moves (l.version_number + 1) moved l.job
+  job = with_moves (l.epoch + 1) moved l.job
 
   extends : Extends h h
   extends = record { first = refl; base = refl; later = []; commits = sym (append-nil h.commits) }
@@ -50,19 +50,19 @@ module _ (b : Base) (l : Layout) (h : History) (moved : List Moved) (base : IsBa
 
   -- The same base is that of the layout with the records.
   pub relocated_base : Spares (at_rest (relocated l moved)) h → IsBase b (relocated l moved) h
-  relocated_base = appended_base b l h frame l.live (l.version_number + 1) job h extends up leads base tidy
+  relocated_base = appended_base b l h frame l.live (l.epoch + 1) job h extends up leads base tidy
 
   module _ (disk : DiskState) (holds : Holds b l disk) (has : HasFrame (frames_grammar l.active.format) (Relocated moved)) where
     -- After both calls the disk holds it.
     pub relocated_holds : Holds b (relocated l moved) (writing.written log_name bytes disk)
-    relocated_holds = appended_holds b l h frame l.live (l.version_number + 1) job h extends up leads base tidy disk holds has
+    relocated_holds = appended_holds b l h frame l.live (l.epoch + 1) job h extends up leads base tidy disk holds has
 
     -- Whatever a crash leaves while the frame is written shows the history.
     pub relocating_shows : IsTidy (layout_logs l) (relocated l moved) h → Spares (at_rest (relocated l moved)) h
         → (now : DiskState) → WhileWriting log_name bytes disk now → LeavesBetween h h now
-    relocating_shows = writing_shows b l h frame l.live (l.version_number + 1) job h extends up leads base tidy disk holds has
+    relocating_shows = writing_shows b l h frame l.live (l.epoch + 1) job h extends up leads base tidy disk holds has
 
     -- A store may be opened on the disk again, also where that failed.
     pub relocating_opens_again : (now : DiskState) → WhileWriting log_name bytes disk now → MayOpen now
     relocating_opens_again =
-        writing_opens_again b l h frame l.live (l.version_number + 1) job h extends up leads base tidy disk holds has
+        writing_opens_again b l h frame l.live (l.epoch + 1) job h extends up leads base tidy disk holds has

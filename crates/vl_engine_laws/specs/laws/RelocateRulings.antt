@@ -12,7 +12,7 @@ use Rattle.vl_engine_laws.specs.Represents.{Fronts, file_of}
 use Rattle.vl_engine_laws.specs.declared.kept.Core.{Core}
 use Rattle.vl_disk.specs.declared.name.Name.{Name}
 use Rattle.vl_engine_model.specs.Relocation.{Candidate, Pass, moved_of}
-use Rattle.vl_engine_model.specs.Ruling.{Ruling, has_no_version, leaving}
+use Rattle.vl_engine_model.specs.Ruling.{Ruling, has_no_epoch, leaving}
 use Rattle.vl_engine_model.specs.Rulings.Relocate as answers
 use Rattle.vl_engine_model.specs.Rulings.Relocate.{MoveAnswer, Moves, relocate_of, relocate_ruling, relocate_unless, relocated}
 use Rattle.vl_engine_model.specs.Shown.{IsThere}
@@ -23,7 +23,7 @@ use Rattle.vl_engine_model.specs.declared.layout.Layout.{Layout}
 use Rattle.vl_engine_model_laws.specs.laws.TidyRulings.{relocate_tidy}
 use Rattle.vl_model.specs.Frames.{frame_length}
 use Rattle.vl_model.specs.History.{History, last_number}
-use Rattle.vl_model.specs.Limits.{max_version_number}
+use Rattle.vl_model.specs.Limits.{max_epoch}
 use Rattle.vl_model.specs.declared.counter.Counter.TheVariants as counters
 use Rattle.vl_model.specs.declared.log_frame.LogFrame.TheVariants.{Relocated}
 use Rattle.vl_model.specs.declared.log_frame.Moved.{Moved}
@@ -51,11 +51,11 @@ module _ (l : Layout) (h : History) (pass : Pass) (batch : List Candidate) where
       if fits then moving l h moved
       else leaving (answers.Full l.active.length (frame_length l.active.format (Relocated moved))) h l
 
-  -- and whether no version number is left
+  -- and whether no epoch is left
   by_left : List Moved → Bool → Bool → Ruling MoveAnswer
   by_left moved used fits = if used then leaving (answers.Exhausted counters.Version) h l else by_fit moved fits
 
-  some_ruled : (moved : List Moved) → 1 ≤ length moved → relocate_of l h moved ≡ by_left moved (has_no_version l)
+  some_ruled : (moved : List Moved) → 1 ≤ length moved → relocate_of l h moved ≡ by_left moved (has_no_epoch l)
       (nat_le (l.active.length + frame_length l.active.format (Relocated moved)) l.room)
   unfolding by_left by_fit
   some_ruled [] some = absurd (omega arith)
@@ -76,41 +76,41 @@ module _ (l : Layout) (h : History) (pass : Pass) (batch : List Candidate) where
   none_ruled running are = running_ruled running [] are
 
   module _ (moved : List Moved) (running : l.halted ≡ None) (are : found ≡ moved) (some : 1 ≤ length moved) where
-    as_ruled : (used fits : Bool) → has_no_version l ≡ used
+    as_ruled : (used fits : Bool) → has_no_epoch l ≡ used
         → nat_le (l.active.length + frame_length l.active.format (Relocated moved)) l.room ≡ fits
         → by_left moved used fits ≡ relocate_ruling l h pass batch
     as_ruled used fits used_is fits_is =
         ap (λ (b : Bool). by_left moved b fits) (sym used_is)
-        ∙ ap (by_left moved (has_no_version l)) (sym fits_is)
+        ∙ ap (by_left moved (has_no_epoch l)) (sym fits_is)
         ∙ sym (some_ruled moved some) ∙ running_ruled running moved are
 
-    -- no version number is left,
-    pub used_ruled : max_version_number ≤ l.version_number
+    -- no epoch is left,
+    pub used_ruled : max_epoch ≤ l.epoch
         → leaving (answers.Exhausted counters.Version) h l ≡ relocate_ruling l h pass batch
     unfolding by_left by_fit
     used_ruled most =
-        let used : has_no_version l ≡ true = grind (arith, nat_tests, most) in
+        let used : has_no_epoch l ≡ true = grind (arith, nat_tests, most) in
         as_ruled true (nat_le (l.active.length + frame_length l.active.format (Relocated moved)) l.room) used refl
 
     -- the frame doesn't fit,
-    pub full_ruled : l.version_number < max_version_number
+    pub full_ruled : l.epoch < max_epoch
         → l.room < l.active.length + frame_length l.active.format (Relocated moved)
         → leaving (answers.Full l.active.length (frame_length l.active.format (Relocated moved))) h l
         ≡ relocate_ruling l h pass batch
     unfolding by_left by_fit
     full_ruled left long =
-        let unused : has_no_version l ≡ false = grind (arith, nat_tests, left) in
+        let unused : has_no_epoch l ≡ false = grind (arith, nat_tests, left) in
         let fits : nat_le (l.active.length + frame_length l.active.format (Relocated moved)) l.room ≡ false =
         grind (arith, nat_tests, long) in
         as_ruled false false unused fits
 
     -- or they are moved.
-    pub moved_ruled : l.version_number < max_version_number
+    pub moved_ruled : l.epoch < max_epoch
         → l.active.length + frame_length l.active.format (Relocated moved) ≤ l.room
         → IsMoving l h pass batch moved
     unfolding by_left by_fit
     moved_ruled left short =
-        let unused : has_no_version l ≡ false = grind (arith, nat_tests, left) in
+        let unused : has_no_epoch l ≡ false = grind (arith, nat_tests, left) in
         let fits : nat_le (l.active.length + frame_length l.active.format (Relocated moved)) l.room ≡ true =
         grind (arith, nat_tests, short) in
         record { running = running; are = are; ruling = as_ruled false true unused fits }
@@ -139,14 +139,14 @@ module _ (l : Layout) (h : History) (pass : Pass) (batch : List Candidate) where
         moved_ruled moved (runs can.running) are can.some (omega (arith, version, left)) (omega (arith, long, room, size, fits))
 
     pub used_up : (moved : List Moved) → found ≡ moved → core.front.halted ≡ None → 1 ≤ length moved
-        → max_version_number ≤ core.back.version_number
+        → max_epoch ≤ core.back.epoch
         → leaving (answers.Exhausted counters.Version) h l ≡ relocate_ruling l h pass batch
     used_up moved are running some most =
         let version = fronts.version in
         used_ruled moved (runs running) are some (omega (arith, version, most))
 
     pub is_full : (moved : List Moved) → found ≡ moved → core.front.halted ≡ None → 1 ≤ length moved
-        → core.back.version_number < max_version_number
+        → core.back.epoch < max_epoch
         → core.front.room < core.front.log.length + move_length moved
         → leaving (answers.Full core.front.log.length (move_length moved)) h l ≡ relocate_ruling l h pass batch
     is_full moved are running some left long =
@@ -164,7 +164,7 @@ module _ (l : Layout) (h : History) (pass : Pass) (batch : List Candidate) where
   history_of : (moved : List Moved) → (relocate_of l h moved).history ≡ h
   history_of [] = refl
   history_of (m ∷ ms) =
-      by (has_no_version l) (nat_le (l.active.length + frame_length l.active.format (Relocated (m ∷ ms))) l.room)
+      by (has_no_epoch l) (nat_le (l.active.length + frame_length l.active.format (Relocated (m ∷ ms))) l.room)
     where
       by : (used fits : Bool) → (if used then leaving (answers.Exhausted counters.Version) h l
           else (if fits then moving l h (m ∷ ms)

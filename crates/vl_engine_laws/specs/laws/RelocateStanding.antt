@@ -21,7 +21,7 @@ use Rattle.vl_front.specs.declared.front.Front.{Front}
 use Rattle.vl_engine_model.specs.Logs.{frame_entries}
 use Rattle.vl_engine_model.specs.Garbage.{best}
 use Rattle.vl_engine_model.specs.Relocation.{Candidate, Pass, moved_of}
-use Rattle.vl_engine_model.specs.Ruling.{Ruling, halted_at, has_no_version}
+use Rattle.vl_engine_model.specs.Ruling.{Ruling, halted_at, has_no_epoch}
 use Rattle.vl_engine_model.specs.Rulings.EndPass.{end_pass_ruling}
 use Rattle.vl_engine_model.specs.Rulings.Pick.{pick_best, pick_ruling, pick_unless}
 use Rattle.vl_engine_model.specs.Rulings.Relocate.{relocate_of, relocate_ruling, relocate_unless, relocated}
@@ -61,7 +61,7 @@ module _ (l : Layout) (h : History) (spares : Spares l h) where
   of_spares : (moved : List Moved) → SparesRuled (relocate_of l h moved)
   of_spares [] = spares
   of_spares (m ∷ ms) =
-      either (has_no_version l) _ _ spares
+      either (has_no_epoch l) _ _ spares
       (either (nat_le (l.active.length + frame_length l.active.format (Relocated (m ∷ ms))) l.room) _ _
       (relocated_spares l h (m ∷ ms) spares) spares)
 
@@ -94,7 +94,7 @@ module _ {H : Type 0} (core after : Core H) (h : History) (l : Layout) (is : Fro
     (front : after.front ≡ record core.front {
       log = record { number = core.front.log.number; length = core.front.log.length + move_length moved };
     })
-    (back : after.back ≡ record core.back { version_number = core.back.version_number + 1 }) where
+    (back : after.back ≡ record core.back { epoch = core.back.epoch + 1 }) where
   front_relocated : IsFront core.front.oracle core.front.recent.named h (relocated l moved)
   front_relocated = record {
     last = is.front.last;
@@ -114,7 +114,7 @@ module _ {H : Type 0} (core after : Core H) (h : History) (l : Layout) (is : Fro
     room = ap (λ (f : Front). f.room) front ∙ is.room;
     roomy = is.roomy;
     halted = ap (λ (f : Front). option_map file_of f.halted) front ∙ is.halted;
-    version = ap (λ (b : Back). b.version_number) back ∙ ap (λ (n : ℕ). n + 1) is.version;
+    version = ap (λ (b : Back). b.epoch) back ∙ ap (λ (n : ℕ). n + 1) is.version;
     keep = ap (λ (b : Back). b.state.keep) back ∙ is.keep;
     since = ap (λ (b : Back). b.state.since) back ∙ is.since;
   }
@@ -134,7 +134,7 @@ pub stands_relocated : {H : Type 0} (bytes : H → Option (List ℕ)) (core afte
     → after.front ≡ record core.front {
       log = record { number = core.front.log.number; length = core.front.log.length + move_length moved };
     }
-    → after.back ≡ record core.back { version_number = core.back.version_number + 1 }
+    → after.back ≡ record core.back { epoch = core.back.epoch + 1 }
     → after.version.behind ≡ core.version.behind
     → after.version.active.entries ≡ in_order (move_entries core.front moved ++ core.version.active.entries)
     → StandsFor bytes after h (relocated l moved)

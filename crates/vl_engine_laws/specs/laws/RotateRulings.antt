@@ -4,7 +4,7 @@ use Rattle.std.proofs.Common.{sym, ap, ◌∙◌, arith}
 use Rattle.std.proofs.lemmas.Bool.Decides.{nat_tests}
 use Rattle.std.proofs.lemmas.List.Sums.{sum_by-cons}
 use Rattle.vl_engine_model.specs.Logs.{log_length}
-use Rattle.vl_engine_model.specs.Ruling.{Exhausted, Halted, Idle, Ruling, StepAnswer, Stepped, has_no_number, has_no_version, leaving}
+use Rattle.vl_engine_model.specs.Ruling.{Exhausted, Halted, Idle, Ruling, StepAnswer, Stepped, has_no_number, has_no_epoch, leaving}
 use Rattle.vl_engine_model.specs.Rulings.Rotate.{rotate_of, rotate_ruling, rotate_unless, rotated}
 use Rattle.vl_engine_model.specs.Start.{has_frames, is_any}
 use Rattle.vl_engine_model.specs.Tidy.{IsTrueLog}
@@ -12,7 +12,7 @@ use Rattle.vl_engine_model.specs.declared.file_name.FileName.{FileName}
 use Rattle.vl_engine_model.specs.declared.layout.Layout.{Layout}
 use Rattle.vl_model.specs.Frames.{frame_length}
 use Rattle.vl_model.specs.History.{History}
-use Rattle.vl_model.specs.Limits.{max_file_number, max_version_number}
+use Rattle.vl_model.specs.Limits.{max_file_number, max_epoch}
 use Rattle.vl_model.specs.declared.counter.Counter.TheVariants as counter
 use Rattle.vl_model.specs.declared.log_frame.LogFrame.TheVariants.{Committed, Relocated}
 use Rattle.vl_model.specs.declared.log_frame.LogFrame.{LogFrame}
@@ -70,26 +70,26 @@ module _ (l : Layout) (h : History) (true_log : IsTrueLog l.active) (running : l
         if used_log then leaving (Exhausted counter.Log) h l
         else (if used_version then leaving (Exhausted counter.Version) h l else rotate_made l h)
 
-    ruled_by : by_numbers (has_no_number l.next_log 1) (has_no_version l) ≡ rotate_ruling l h
+    ruled_by : by_numbers (has_no_number l.next_log 1) (has_no_epoch l) ≡ rotate_ruling l h
     ruled_by = sym (ap (λ (fs : List LogFrame). rotate_of fs l h) some.are) ∙ of_frames
 
     pub log_used_up : max_file_number < l.next_log → leaving (Exhausted counter.Log) h l ≡ rotate_ruling l h
     log_used_up past =
         let used : has_no_number l.next_log 1 ≡ true = grind (arith, nat_tests, past) in
-        sym (ap (λ (b : Bool). by_numbers b (has_no_version l)) used) ∙ ruled_by
+        sym (ap (λ (b : Bool). by_numbers b (has_no_epoch l)) used) ∙ ruled_by
 
     module _ (left : l.next_log ≤ max_file_number) where
       is_left : has_no_number l.next_log 1 ≡ false
       is_left = grind (arith, nat_tests, left)
 
-      pub version_used_up : max_version_number ≤ l.version_number
+      pub version_used_up : max_epoch ≤ l.epoch
           → leaving (Exhausted counter.Version) h l ≡ rotate_ruling l h
       version_used_up past =
-          let used : has_no_version l ≡ true = grind (arith, nat_tests, past) in
-          sym (ap (λ (b : Bool). by_numbers b (has_no_version l)) is_left ∙ ap (by_numbers false) used) ∙ ruled_by
+          let used : has_no_epoch l ≡ true = grind (arith, nat_tests, past) in
+          sym (ap (λ (b : Bool). by_numbers b (has_no_epoch l)) is_left ∙ ap (by_numbers false) used) ∙ ruled_by
 
       -- Nothing stands against it.
-      pub made_ruled : l.version_number < max_version_number → rotate_made l h ≡ rotate_ruling l h
+      pub made_ruled : l.epoch < max_epoch → rotate_made l h ≡ rotate_ruling l h
       made_ruled below =
-          let version_left : has_no_version l ≡ false = grind (arith, nat_tests, below) in
-          sym (ap (λ (b : Bool). by_numbers b (has_no_version l)) is_left ∙ ap (by_numbers false) version_left) ∙ ruled_by
+          let version_left : has_no_epoch l ≡ false = grind (arith, nat_tests, below) in
+          sym (ap (λ (b : Bool). by_numbers b (has_no_epoch l)) is_left ∙ ap (by_numbers false) version_left) ∙ ruled_by

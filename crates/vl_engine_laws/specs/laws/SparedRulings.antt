@@ -4,7 +4,7 @@ use Rattle.std.specs.Prelude.{T, Option, None, Some, ◌==◌, ◌||◌, nat_le,
 use Rattle.std.specs.FinMap.{entries-from_sorted, from_sorted, is_sorted}
 use Rattle.vl_engine_laws.specs.Spared.{Spares, SparesRuled}
 use Rattle.vl_engine_laws.specs.laws.SparedSteps.{spares_begun, spares_committed, spares_ended, spares_flushed, spares_keeping, spares_rotated}
-use Rattle.vl_engine_model.specs.Ruling.{Ruling, ended, has_no_number, has_no_version, logged}
+use Rattle.vl_engine_model.specs.Ruling.{Ruling, ended, has_no_number, has_no_epoch, logged}
 use Rattle.vl_engine_model.specs.Rulings.Begin.{begin_ruling}
 use Rattle.vl_engine_model.specs.Rulings.Commit.{Transaction, commit_checked, commit_frame, commit_ruling, commit_running}
 use Rattle.vl_engine_model.specs.Rulings.Commit.{commit_unless, committed}
@@ -64,7 +64,7 @@ module _ (l : Layout) (h : History) (spares : Spares l h) where
   rotate_of_spares : (frames : List LogFrame) → SparesRuled (rotate_of frames l h)
   rotate_of_spares [] = spares
   rotate_of_spares (f ∷ fs) =
-      either (has_no_number l.next_log 1) _ _ spares (either (has_no_version l) _ _ spares (spares_rotated l h spares))
+      either (has_no_number l.next_log 1) _ _ spares (either (has_no_epoch l) _ _ spares (spares_rotated l h spares))
 
   rotate_unless_spares : (halted : Option FileName) → SparesRuled (rotate_unless halted l h)
   rotate_unless_spares (Some name) = spares
@@ -79,7 +79,7 @@ module _ (l : Layout) (h : History) (spares : Spares l h) where
     flush_of_spares None waits = spares
     flush_of_spares (Some s) waits =
         either (has_no_number l.next_table 1) _ _ spares
-        (either (has_no_version l) _ _ spares (spares_flushed l h s waits level deeper are spares))
+        (either (has_no_epoch l) _ _ spares (spares_flushed l h s waits level deeper are spares))
 
     flush_unless_spares : (halted : Option FileName) → SparesRuled (flush_unless halted l h)
     flush_unless_spares (Some name) = spares

@@ -63,7 +63,7 @@ module _ {H : Type 0} (core : Core H) (h : History) (l : Layout) (is : Fronts co
           room = same.room ∙ is.room;
           roomy = is.roomy;
           halted = ap (option_map file_of) same.halted ∙ is.halted;
-          version = ap (λ (b : Back). b.version_number) back ∙ is.version;
+          version = ap (λ (b : Back). b.epoch) back ∙ is.version;
           keep = ap (λ (b : Back). b.state.keep) back ∙ is.keep;
           since = ap (λ (b : Back). b.state.since) back ∙ is.since;
         }
@@ -81,7 +81,7 @@ module _ {H : Type 0} (core : Core H) (h : History) (l : Layout) (is : Fronts co
       room = same.room ∙ is.room;
       roomy = is.roomy;
       halted = ap (option_map file_of) same.halted ∙ is.halted;
-      version = ap (λ (b : Back). b.version_number) back ∙ is.version;
+      version = ap (λ (b : Back). b.epoch) back ∙ is.version;
       keep = ap (λ (b : Back). b.state.keep) back ∙ is.keep;
       since = ap (λ (b : Back). b.state.since) back ∙ is.since;
     }
@@ -104,7 +104,7 @@ module _ {H : Type 0} (core : Core H) (h : History) (l : Layout) (is : Fronts co
     room = room ∙ is.room;
     roomy = is.roomy;
     halted = ap (option_map file_of) halted ∙ is.halted;
-    version = ap (λ (b : Back). b.version_number) back ∙ is.version;
+    version = ap (λ (b : Back). b.epoch) back ∙ is.version;
     keep = ap (λ (b : Back). b.state.keep) back ∙ is.keep;
     since = ap (λ (b : Back). b.state.since) back ∙ is.since;
   }
@@ -129,7 +129,7 @@ fronts_halted core after h l name is live named log room halted back = record {
   room = room ∙ is.room;
   roomy = is.roomy;
   halted = ap (option_map file_of) halted;
-  version = ap (λ (b : Back). b.version_number) back ∙ is.version;
+  version = ap (λ (b : Back). b.epoch) back ∙ is.version;
   keep = ap (λ (b : Back). b.state.keep) back ∙ is.keep;
   since = ap (λ (b : Back). b.state.since) back ∙ is.since;
 }

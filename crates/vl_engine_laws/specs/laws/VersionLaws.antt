@@ -95,7 +95,7 @@ module _ {H : Type 0} (bytes : H → Option (List ℕ)) (version : Version H) (l
       → after.behind ≡ version.behind → after.active.entries ≡ in_order (next_entries l h t ++ version.active.entries)
       → HasLayout bytes after (committed l h t).layout
   laid_committed after h t =
-      laid_appended after (commit_frame h t.writes) (ended t.ticket l).live l.version_number l.job
+      laid_appended after (commit_frame h t.writes) (ended t.ticket l).live l.epoch l.job
 
   -- and behind a relocation.
   pub laid_relocated : (after : Version H) (moved : List Moved) → IsTrueLog l.active → after.behind ≡ version.behind
@@ -103,7 +103,7 @@ module _ {H : Type 0} (bytes : H → Option (List ℕ)) (version : Version H) (l
       ≡ in_order (frame_entries l.active.format l.active.number l.active.length (Relocated moved) ++ version.active.entries)
       → HasLayout bytes after (relocated l moved)
   laid_relocated after moved =
-      laid_appended after (Relocated moved) l.live (l.version_number + 1) (with_moves (l.version_number + 1) moved l.job)
+      laid_appended after (Relocated moved) l.live (l.epoch + 1) (with_moves (l.epoch + 1) moved l.job)
 
   -- ---- without tables
 

@@ -10,7 +10,7 @@ use Rattle.vl_engine_model.specs.Logs.{memtable}
 use Rattle.vl_engine_model.specs.Tables.{new_table}
 use Rattle.vl_engine_model.specs.Levels.{in_front}
 use Rattle.vl_engine_model.specs.Sources.{oldest, but_oldest}
-use Rattle.vl_engine_model.specs.Ruling.{Ruling, leaving, StepAnswer, Stepped, Idle, Halted, Exhausted, switched, has_no_number, has_no_version}
+use Rattle.vl_engine_model.specs.Ruling.{Ruling, leaving, StepAnswer, Stepped, Idle, Halted, Exhausted, switched, has_no_number, has_no_epoch}
 use Rattle.vl_engine_model.specs.declared.file_name.FileName.{FileName}
 use Rattle.vl_engine_model.specs.declared.layout.Layout.{Layout}
 use Rattle.vl_engine_model.specs.declared.segment.Segment.{Segment}
@@ -33,14 +33,14 @@ flushed l s = switched [] (record l {
   levels = in_front (flushed_table l s) l.levels;
   covered = covered_by s.frames l.covered;
   next_table = l.next_table + 1;
-  version_number = l.version_number + 1;
+  epoch = l.epoch + 1;
 })
 
 abbrev pub flush_of : Layout → History → Option Segment → Ruling StepAnswer
 flush_of l h None = leaving Idle h l
 flush_of l h (Some s) =
     if has_no_number l.next_table 1 then leaving (Exhausted counter.Table) h l
-    else (if has_no_version l then leaving (Exhausted counter.Version) h l
+    else (if has_no_epoch l then leaving (Exhausted counter.Version) h l
     else record { answer = Stepped l.next_table; history = h; layout = flushed l s; calls = 5; gone = [] })
 
 abbrev pub flush_unless : Option FileName → Layout → History → Ruling StepAnswer

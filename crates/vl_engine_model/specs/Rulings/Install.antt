@@ -12,7 +12,7 @@ use Rattle.vl_engine_model.specs.Jobs.{Made, loose, job_ended}
 use Rattle.vl_engine_model.specs.Levels.{is_among, replaced}
 use Rattle.vl_engine_model.specs.Merging.{needless, gone_after}
 use Rattle.vl_engine_model.specs.Sources.{tables}
-use Rattle.vl_engine_model.specs.Ruling.{Ruling, leaving, switched, has_no_version}
+use Rattle.vl_engine_model.specs.Ruling.{Ruling, leaving, switched, has_no_epoch}
 use Rattle.vl_engine_model.specs.declared.file_name.FileName.{FileName}
 use Rattle.vl_engine_model.specs.declared.job.Job.{Job}
 use Rattle.vl_engine_model.specs.declared.job.OpenJob.{OpenJob}
@@ -26,7 +26,7 @@ pub data InstallAnswer : Type 0 where
   Raced : List ℕ → ℕ → InstallAnswer
   Exhausted : Counter → InstallAnswer
 
--- the keys relocated since the job began, the latest first, with the version number that this made
+-- the keys relocated since the job began, the latest first, with the epoch that this made
 abbrev pub moved_since : Option OpenJob → List Named
 moved_since None = []
 moved_since (Some job) = job.moved
@@ -51,7 +51,7 @@ race job moved = first_of (moved_among moved (needless job))
 abbrev pub put_in : Job → Made → Layout → Layout
 put_in job made l = record l {
   levels = replaced job.target job.inputs made.tables l.levels;
-  version_number = l.version_number + 1;
+  epoch = l.epoch + 1;
   job = None;
   retired = l.retired ++ loose made.leavings;
   gone = gone_after l.gone (needless job);
@@ -68,7 +68,7 @@ abbrev pub install_checked : Layout → History → Job → Made → Option Name
 install_checked l h job made (Some named) =
     leaving (Raced named.0 named.1) h (job_ended made l)
 install_checked l h job made None =
-    if has_no_version l then leaving (Exhausted counter.Version) h (job_ended made l)
+    if has_no_epoch l then leaving (Exhausted counter.Version) h (job_ended made l)
     else record { answer = Installed; history = h; layout = installed job made l; calls = 2; gone = [] }
 
 abbrev pub install_unless : Option FileName → Layout → History → Job → Made → Ruling InstallAnswer

@@ -8,7 +8,7 @@ use Rattle.vl_model.specs.declared.log_frame.LogFrame.TheVariants.{Relocated}
 use Rattle.vl_model.specs.declared.log_frame.Moved.{Moved}
 use Rattle.vl_engine_model.specs.Relocation.{Pass, Candidate, moved_of}
 use Rattle.vl_engine_model.specs.Sources.{sources}
-use Rattle.vl_engine_model.specs.Ruling.{Ruling, leaving, logged, has_no_version}
+use Rattle.vl_engine_model.specs.Ruling.{Ruling, leaving, logged, has_no_epoch}
 use Rattle.vl_engine_model.specs.declared.file_name.FileName.{FileName}
 use Rattle.vl_engine_model.specs.declared.job.OpenJob.{OpenJob}
 use Rattle.vl_engine_model.specs.declared.layout.Layout.{Layout}
@@ -21,7 +21,7 @@ pub data MoveAnswer : Type 0 where
   -- the length of the active log, and that of the frame
   Full : ℕ → ℕ → MoveAnswer
 
--- the keys of these records, each with the version number that their move made
+-- the keys of these records, each with the epoch that their move made
 abbrev pub moves_at : ℕ → List Moved → List (List ℕ × ℕ)
 moves_at number moved = map (λ (m : Moved). (m.key, number)) moved
 
@@ -32,15 +32,15 @@ with_moves number moved (Some job) = Some (record job { moved = moves_at number 
 
 abbrev pub relocated : Layout → List Moved → Layout
 relocated l moved = logged (Relocated moved) (record l {
-  version_number = l.version_number + 1;
-  job = with_moves (l.version_number + 1) moved l.job;
+  epoch = l.epoch + 1;
+  job = with_moves (l.epoch + 1) moved l.job;
 })
 
 -- by the records that are moved
 abbrev pub relocate_of : Layout → History → List Moved → Ruling MoveAnswer
 relocate_of l h [] = leaving (Moves 0) h l
 relocate_of l h (m ∷ ms) =
-    if has_no_version l then leaving (Exhausted counter.Version) h l
+    if has_no_epoch l then leaving (Exhausted counter.Version) h l
     else (if nat_le (l.active.length + frame_length l.active.format (Relocated (m ∷ ms))) l.room
     then record { answer = Moves (length (m ∷ ms)); history = h; layout = relocated l (m ∷ ms); calls = 2; gone = [] }
     else leaving (Full l.active.length (frame_length l.active.format (Relocated (m ∷ ms)))) h l)

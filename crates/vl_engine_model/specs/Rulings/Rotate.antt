@@ -5,7 +5,7 @@ use Rattle.vl_model.specs.declared.counter.Counter.TheVariants as counter
 use Rattle.vl_model.specs.declared.log_frame.LogFrame.{LogFrame}
 use Rattle.vl_model.specs.Formats.{log_format}
 use Rattle.vl_engine_model.specs.Logs.{new_segment}
-use Rattle.vl_engine_model.specs.Ruling.{Ruling, leaving, StepAnswer, Stepped, Idle, Halted, Exhausted, has_no_number, has_no_version}
+use Rattle.vl_engine_model.specs.Ruling.{Ruling, leaving, StepAnswer, Stepped, Idle, Halted, Exhausted, has_no_number, has_no_epoch}
 use Rattle.vl_engine_model.specs.declared.file_name.FileName.{FileName}
 use Rattle.vl_engine_model.specs.declared.layout.Layout.{Layout}
 
@@ -14,7 +14,7 @@ rotated l = record l {
   active = new_segment log_format l.next_log [];
   frozen = l.active ∷ l.frozen;
   next_log = l.next_log + 1;
-  version_number = l.version_number + 1;
+  epoch = l.epoch + 1;
 }
 
 -- by the frames of the active log: without any its memtable is empty
@@ -22,7 +22,7 @@ abbrev pub rotate_of : List LogFrame → Layout → History → Ruling StepAnswe
 rotate_of [] l h = leaving Idle h l
 rotate_of (f ∷ fs) l h =
     if has_no_number l.next_log 1 then leaving (Exhausted counter.Log) h l
-    else (if has_no_version l then leaving (Exhausted counter.Version) h l
+    else (if has_no_epoch l then leaving (Exhausted counter.Version) h l
     else record { answer = Stepped l.active.number; history = h; layout = rotated l; calls = 3; gone = [] })
 
 abbrev pub rotate_unless : Option FileName → Layout → History → Ruling StepAnswer

@@ -30,14 +30,14 @@ pass_pin (Some pass) = pass.pin ∷ []
 abbrev pub pins : Layout → List Pin
 pins l = map (λ (x : Live). x.pin) l.live ++ job_pin l.job ++ pass_pin l.pass
 
--- a pin is below the version number that the file's retirement made
+-- a pin is below the epoch that the file's retirement made
 abbrev pub is_held : List Pin → Retired → Bool
-is_held ps file = list_any (λ (p : Pin). nat_lt p.version_number file.version_number) ps
+is_held ps file = list_any (λ (p : Pin). nat_lt p.epoch file.epoch) ps
 
 -- where there is a least number that is still looked at, the file retired at one up to it
 abbrev pub is_retired_up_to : Option ℕ → Retired → Bool
 is_retired_up_to None file = true
-is_retired_up_to (Some least) file = nat_le file.version_number least
+is_retired_up_to (Some least) file = nat_le file.epoch least
 
 -- the files that a sweep removes, the earliest retired first
 abbrev pub swept : Option ℕ → Layout → List FileName

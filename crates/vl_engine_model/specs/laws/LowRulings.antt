@@ -17,7 +17,7 @@ use Rattle.vl_model.specs.declared.log_frame.Moved.{Moved}
 use Rattle.vl_engine_model.specs.Logs.{memtable}
 use Rattle.vl_engine_model.specs.laws.LowShows.{shows_later, shows_keep, low_up, floor-up, floor-rises, floor-begun}
 use Rattle.vl_engine_model.specs.Relocation.{Pass, Candidate, moved_of}
-use Rattle.vl_engine_model.specs.Ruling.{pin_of, Ruling, ended, has_no_number, has_no_version}
+use Rattle.vl_engine_model.specs.Ruling.{pin_of, Ruling, ended, has_no_number, has_no_epoch}
 use Rattle.vl_engine_model.specs.Rulings.Begin.{begun}
 use Rattle.vl_engine_model.specs.Rulings.Commit.{Transaction, committed, commit_checked, commit_running, commit_unless}
 use Rattle.vl_engine_model.specs.Rulings.Commit.{commit_ruling, commit_frame}
@@ -128,7 +128,7 @@ module _ (h : History) (l : Layout) where
   rotate_of-later : (frames : List LogFrame) → RuledLater h l (rotate_of frames l h)
   rotate_of-later [] = same
   rotate_of-later (f ∷ fs) = either h l (has_no_number l.next_log 1) _ _ same
-      (either h l (has_no_version l) _ _ same (as_it_was h l (rotated l) refl refl refl))
+      (either h l (has_no_epoch l) _ _ same (as_it_was h l (rotated l) refl refl refl))
 
   rotate_later : (halted : Option FileName) → RuledLater h l (rotate_unless halted l h)
   rotate_later (Some name) = same
@@ -141,7 +141,7 @@ module _ (h : History) (l : Layout) where
   flush_of-later : (o : Option Segment) → RuledLater h l (flush_of l h o)
   flush_of-later None = same
   flush_of-later (Some s) = either h l (has_no_number l.next_table 1) _ _ same
-      (either h l (has_no_version l) _ _ same (as_it_was h l (flushed l s) refl refl refl))
+      (either h l (has_no_epoch l) _ _ same (as_it_was h l (flushed l s) refl refl refl))
 
   flush_later : (halted : Option FileName) → RuledLater h l (flush_unless halted l h)
   flush_later (Some name) = same
@@ -157,7 +157,7 @@ module _ (h : History) (l : Layout) where
   relocate_of-later : (moved : List Moved) → RuledLater h l (relocate_of l h moved)
   relocate_of-later [] = same
   relocate_of-later (m ∷ ms) =
-      either h l (has_no_version l) _ _ same
+      either h l (has_no_epoch l) _ _ same
       (either h l (nat_le (l.active.length + frame_length l.active.format (Relocated (m ∷ ms))) l.room) _ _
       (as_it_was h l (relocated l (m ∷ ms)) refl refl refl) same)
 

@@ -30,7 +30,7 @@ use Rattle.vl_engine_model.specs.laws.LayoutShows.{AreShown, sources-rotated, co
 use Rattle.vl_engine_model.specs.Logs.{memtable}
 use Rattle.vl_engine_model.specs.Relocation.{Pass, Candidate, is_moved, moved_of}
 use Rattle.vl_engine_model.specs.Ruling.{Ruling, leaving, ended, logged, StepAnswer, Stepped, Exhausted as NoNumber}
-use Rattle.vl_engine_model.specs.Ruling.{has_no_number, has_no_version}
+use Rattle.vl_engine_model.specs.Ruling.{has_no_number, has_no_epoch}
 use Rattle.vl_engine_model.specs.Rulings.Commit.{Transaction, CommitAnswer, Nothing, Exhausted, Full, commit_ended}
 use Rattle.vl_engine_model.specs.Rulings.Commit.{committed, commit_checked, commit_running, commit_unless, commit_ruling}
 use Rattle.vl_engine_model.specs.Rulings.Commit.{commit_frame}
@@ -102,9 +102,9 @@ module _ (logs : Logs) (from : List ℕ → ℕ) (l : Layout) (h : History) (sho
   rotate_of-shows [] = shows
   rotate_of-shows (f ∷ fs) =
       let made : Ruling StepAnswer = record { answer = Stepped l.active.number; history = h; layout = rotated l; calls = 3; gone = [] } in
-      let rest : Ruling StepAnswer = if has_no_version l then leaving (NoNumber counter.Version) h l else made in
+      let rest : Ruling StepAnswer = if has_no_epoch l then leaving (NoNumber counter.Version) h l else made in
       either logs from (has_no_number l.next_log 1) (leaving (NoNumber counter.Log) h l) rest shows
-      (either logs from (has_no_version l) (leaving (NoNumber counter.Version) h l) made shows
+      (either logs from (has_no_epoch l) (leaving (NoNumber counter.Version) h l) made shows
       (stepped_shows (rotated l) 3 (sources-rotated l) (Stepped l.active.number)))
 
   rotate_unless-shows : (halted : Option FileName) → ShowsRuled logs from (rotate_unless halted l h)
@@ -125,9 +125,9 @@ module _ (logs : Logs) (from : List ℕ → ℕ) (l : Layout) (h : History)
   flush_of-shows None waits = shows
   flush_of-shows (Some s) waits =
       let made : Ruling StepAnswer = record { answer = Stepped l.next_table; history = h; layout = flushed l s; calls = 5; gone = [] } in
-      let rest : Ruling StepAnswer = if has_no_version l then leaving (NoNumber counter.Version) h l else made in
+      let rest : Ruling StepAnswer = if has_no_epoch l then leaving (NoNumber counter.Version) h l else made in
       either logs from (has_no_number l.next_table 1) (leaving (NoNumber counter.Table) h l) rest shows
-      (either logs from (has_no_version l) (leaving (NoNumber counter.Version) h l) made shows
+      (either logs from (has_no_epoch l) (leaving (NoNumber counter.Version) h l) made shows
       (flush_shows logs l s h from (last_number h) waits level deeper are (found s waits) shows))
 
   flush_unless-shows : (halted : Option FileName) → ShowsRuled logs from (flush_unless halted l h)
@@ -210,7 +210,7 @@ module _ (logs : Logs) (from : List ℕ → ℕ) (l : Layout) (h : History) (sho
       { answer = Moves (length (m ∷ ms)); history = h; layout = relocated l (m ∷ ms); calls = 2; gone = [] } in
       let full : Ruling MoveAnswer = leaving (NoRoom l.active.length (frame_length l.active.format (Relocated (m ∷ ms)))) h l in
       let room : Bool = nat_le (l.active.length + frame_length l.active.format (Relocated (m ∷ ms))) l.room in
-      either logs from (has_no_version l) (leaving (NoVersion counter.Version) h l) (if room then made else full) shows
+      either logs from (has_no_epoch l) (leaving (NoVersion counter.Version) h l) (if room then made else full) shows
       (either logs from room made full (relocate_shows logs l (m ∷ ms) h from (last_number h) shows all) shows)
 
   relocate_unless-shows : (pass : Pass) (batch : List Candidate)

@@ -15,7 +15,7 @@ use Rattle.vl_model.specs.Cutting.{joined}
 use Rattle.vl_engine_model.specs.Levels.{is_among, in_front, level_at}
 use Rattle.vl_engine_model.specs.Merging.{Sourced, if_so, inputs_of, outside_of, is_dropped, kept_from, kept, merged_entries, outputs}
 use Rattle.vl_engine_model.specs.laws.OrderShows.{all-in_order}
-use Rattle.vl_engine_model.specs.Ruling.{Ruling, has_no_version, pin_of, logged, ended}
+use Rattle.vl_engine_model.specs.Ruling.{Ruling, has_no_epoch, pin_of, logged, ended}
 use Rattle.vl_engine_model.specs.Rulings.Begin.{begun}
 use Rattle.vl_engine_model.specs.Rulings.Commit.{commit_frame}
 use Rattle.vl_engine_model.specs.Rulings.Flush.{flushed, flushed_table}
@@ -304,7 +304,7 @@ module _ (l : Layout) (h : History) (job : Job) (moved : List Named) (k : IsOpen
       by InPlace fit = fit
 
   pub open_relocated : (records : List Moved)
-      → IsOpenWell (relocated l records) h job (moves_at (l.version_number + 1) records ++ moved)
+      → IsOpenWell (relocated l records) h job (moves_at (l.epoch + 1) records ++ moved)
   open_relocated records = record {
     kept = kept_relocated l records job moved k.kept;
     last = k.last;
@@ -457,7 +457,7 @@ module _ (logs : Logs) (l : Layout) (h : History) (job : Job) (made : Made) wher
 
   low_checked : (o : Option Named) → KeepsLow (install_checked l h job made o)
   low_checked (Some named) = λ shown. shown
-  low_checked None = low_either (has_no_version l) _ _ (λ shown. shown) (λ shown. shown)
+  low_checked None = low_either (has_no_epoch l) _ _ (λ shown. shown) (λ shown. shown)
 
   low_unless : (halted : Option FileName) → KeepsLow (install_unless halted l h job made)
   low_unless (Some name) = λ shown. shown

@@ -200,7 +200,7 @@ module _ (l : Layout) (s : IsStocked l) (d : IsDrawnWhole l) where
     pins_drawn =
         subst (λ (ps : List Pin). AllByRecursion (λ (p : Pin). AllByRecursion (IsDrawn l.next_log l.next_table) p.needs)
         ((map (λ (x : Live). x.pin) l.live ++ ps) ++ pass_pin l.pass))
-        (sym (noted_same (l.version_number + 1) records l.job)) d.pins_drawn;
+        (sym (noted_same (l.epoch + 1) records l.job)) d.pins_drawn;
   }
 
   pub drawn_rotated : IsDrawnWhole (rotated l)

@@ -14,7 +14,7 @@ use Rattle.vl_engine_model.specs.Garbage.{best}
 use Rattle.vl_engine_model.specs.Jobs.{Made, job_ended}
 use Rattle.vl_engine_model.specs.Levels.{due_from, first_into}
 use Rattle.vl_engine_model.specs.Relocation.{Pass, Candidate, moved_of}
-use Rattle.vl_engine_model.specs.Ruling.{Ruling, ended, logged, has_no_number, has_no_version}
+use Rattle.vl_engine_model.specs.Ruling.{Ruling, ended, logged, has_no_number, has_no_epoch}
 use Rattle.vl_engine_model.specs.Rulings.Begin.{begun, begin_ruling}
 use Rattle.vl_engine_model.specs.Rulings.Commit.{Transaction, committed, commit_checked, commit_running, commit_unless}
 use Rattle.vl_engine_model.specs.Rulings.Commit.{commit_ruling, commit_frame}
@@ -82,7 +82,7 @@ module _ (P : Layout → History → Type 0) where
       rotate_of-leaves : (frames : List LogFrame) → Leaves (rotate_of frames l h)
       rotate_of-leaves [] = w
       rotate_of-leaves (f ∷ fs) =
-          either (has_no_number l.next_log 1) _ _ w (λ one. either (has_no_version l) _ _ w (λ two. goes))
+          either (has_no_number l.next_log 1) _ _ w (λ one. either (has_no_epoch l) _ _ w (λ two. goes))
 
       rotate_unless-leaves : (halted : Option FileName) → Leaves (rotate_unless halted l h)
       rotate_unless-leaves (Some name) = w
@@ -95,7 +95,7 @@ module _ (P : Layout → History → Type 0) where
       flush_of-leaves : (o : Option Segment) → Leaves (flush_of l h o)
       flush_of-leaves None = w
       flush_of-leaves (Some s) =
-          either (has_no_number l.next_table 1) _ _ w (λ one. either (has_no_version l) _ _ w (λ two. goes s))
+          either (has_no_number l.next_table 1) _ _ w (λ one. either (has_no_epoch l) _ _ w (λ two. goes s))
 
       flush_unless-leaves : (halted : Option FileName) → Leaves (flush_unless halted l h)
       flush_unless-leaves (Some name) = w
@@ -108,7 +108,7 @@ module _ (P : Layout → History → Type 0) where
       relocate_of-leaves : (moved : List Moved) → Leaves (relocate_of l h moved)
       relocate_of-leaves [] = w
       relocate_of-leaves (m ∷ ms) =
-          either (has_no_version l) _ _ w
+          either (has_no_epoch l) _ _ w
           (λ one. either (nat_le (l.active.length + frame_length l.active.format (Relocated (m ∷ ms))) l.room) _ _
           (goes (m ∷ ms)) (λ two. w))
 
@@ -157,7 +157,7 @@ module _ (P : Layout → History → Type 0) where
     module _ (job : Job) (made : Made) (end : P (job_ended made l) h) (goes : P (installed job made l) h) where
       install_checked-leaves : (o : Option Named) → Leaves (install_checked l h job made o)
       install_checked-leaves (Some named) = end
-      install_checked-leaves None = either (has_no_version l) _ _ end (λ one. goes)
+      install_checked-leaves None = either (has_no_epoch l) _ _ end (λ one. goes)
 
       install_unless-leaves : (halted : Option FileName) → Leaves (install_unless halted l h job made)
       install_unless-leaves (Some name) = end

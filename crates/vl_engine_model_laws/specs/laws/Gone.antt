@@ -8,7 +8,7 @@ use Rattle.vl_model.specs.declared.counter.Counter.TheVariants as counter
 use Rattle.vl_model.specs.declared.entry.Entry.{Entry}
 use Rattle.vl_engine_model.specs.Jobs.{Made, job_ended}
 use Rattle.vl_engine_model.specs.Merging.{gone_after, needless}
-use Rattle.vl_engine_model.specs.Ruling.{Ruling, leaving, has_no_version}
+use Rattle.vl_engine_model.specs.Ruling.{Ruling, leaving, has_no_epoch}
 use Rattle.vl_engine_model.specs.Rulings.Install.{InstallAnswer, Installed, Exhausted, installed, race, moved_since}
 use Rattle.vl_engine_model.specs.Rulings.Install.{install_checked, install_unless, install_ruling}
 use Rattle.vl_engine_model.specs.declared.file_name.FileName.{FileName}
@@ -56,7 +56,7 @@ module _ (l : Layout) (h : History) (job : Job) (made : Made) where
 
   checked : (o : Option Named) → Either (install_checked l h job made o)
   checked (Some named) = (λ is. absurd cc, λ refused. refl)
-  checked None = by_version (has_no_version l)
+  checked None = by_version (has_no_epoch l)
 
   unless : (halted : Option FileName) → Either (install_unless halted l h job made)
   unless (Some name) = (λ is. absurd cc, λ refused. refl)

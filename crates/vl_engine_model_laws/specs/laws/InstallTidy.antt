@@ -8,7 +8,7 @@ use Rattle.vl_model.specs.History.{History}
 use Rattle.vl_model.specs.Numbers.{has}
 use Rattle.vl_engine_model.specs.Jobs.{AreDistinct, AreLent, AreOutputs, Made, lent_numbers}
 use Rattle.vl_engine_model.specs.OpenJobs.{IsOpenWell}
-use Rattle.vl_engine_model.specs.Ruling.{Ruling, StepAnswer, has_no_number, has_no_version}
+use Rattle.vl_engine_model.specs.Ruling.{Ruling, StepAnswer, has_no_number, has_no_epoch}
 use Rattle.vl_engine_model.specs.Rulings.Flush.{flush_of, flush_ruling, flush_unless}
 use Rattle.vl_engine_model.specs.Rulings.Install.{InstallAnswer, install_checked, install_ruling, install_unless, moved_since, race}
 use Rattle.vl_engine_model.specs.Sources.{numbers_of, oldest, tables}
@@ -81,7 +81,7 @@ module _ (l : Layout) (h : History) (o : OpenJob) (is : l.job ≡ Some o) (made 
   checked : (o' : Option Named) → AreLevels (install_checked l h o.job made o').layout.levels
   checked (Some named) = are
   checked None =
-      either (has_no_version l) _ _ are (levels_replaced l h o.job o.moved k made all are distinct_made other_made)
+      either (has_no_epoch l) _ _ are (levels_replaced l h o.job o.moved k made all are distinct_made other_made)
 
   unless : (halted : Option FileName) → AreLevels (install_unless halted l h o.job made).layout.levels
   unless (Some name) = are
@@ -102,7 +102,7 @@ module _ (l : Layout) (h : History) (w : IsWellStocked l) (are : AreLevels l.lev
   flush_of-levels None = are
   flush_of-levels (Some s) =
       kept_either (has_no_number l.next_table 1) _ _ are
-      (kept_either (has_no_version l) _ _ are (levels_flushed l s are w.stocked.tables_drawn))
+      (kept_either (has_no_epoch l) _ _ are (levels_flushed l s are w.stocked.tables_drawn))
 
   flush_unless-levels : (halted : Option FileName) → AreLevels (flush_unless halted l h).layout.levels
   flush_unless-levels (Some name) = are

@@ -14,7 +14,7 @@ use Rattle.vl_engine_model.specs.Levels.{is_among, replaced}
 use Rattle.vl_engine_model.specs.Logs.{memtable}
 use Rattle.vl_engine_model.specs.Merging.{Sourced, if_so, inputs_of, outside_of, is_dropped, kept_from, kept, merged_entries, outputs}
 use Rattle.vl_engine_model.specs.laws.OrderShows.{all-in_order, shows_gathered}
-use Rattle.vl_engine_model.specs.Ruling.{Ruling, leaving, has_no_version}
+use Rattle.vl_engine_model.specs.Ruling.{Ruling, leaving, has_no_epoch}
 use Rattle.vl_engine_model.specs.Rulings.Install.{InstallAnswer, Exhausted, installed, install_checked, install_unless}
 use Rattle.vl_engine_model.specs.Rulings.Install.{install_ruling, race, moved_since}
 use Rattle.vl_engine_model.specs.Rulings.Plan.{marked_as, sourced}
@@ -276,7 +276,7 @@ module _ (logs : Logs) (l : Layout) (h : History) (from : List ℕ → ℕ) (o :
   checked : (r : Option Named) → race o.job o.moved ≡ r → ShowsRuled logs from (install_checked l h o.job made r)
   checked (Some named) raced = shows
   checked None raced =
-      either (has_no_version l) (leaving (Exhausted counter.Version) h (job_ended made l)) _ shows
+      either (has_no_epoch l) (leaving (Exhausted counter.Version) h (job_ended made l)) _ shows
       (installed_shows l o.job o.moved k made all logs h from (last_number h) fit past raced shows)
 
   unless : (halted : Option FileName) → ShowsRuled logs from (install_unless halted l h o.job made)

@@ -252,11 +252,11 @@ module _ (outside : List Entry) (floor : ℕ) (format segment number : ℕ) (mov
 
 pub kept_relocated : (l : Layout) (records : List Moved) (job : Job) (moved : List Named)
     → IsKeptFor job moved (sourced l job.inputs)
-    → IsKeptFor job (moves_at (l.version_number + 1) records ++ moved) (sourced (relocated l records) job.inputs)
+    → IsKeptFor job (moves_at (l.epoch + 1) records ++ moved) (sourced (relocated l records) job.inputs)
 kept_relocated l records job moved k =
-    kept_logged l (Relocated records) job moved (moves_at (l.version_number + 1) records ++ moved)
-    (λ e a. accounted-more (outside_of job.base) job.floor (moves_at (l.version_number + 1) records) moved e a)
-    (moved_accounted (outside_of job.base) job.floor l.active.format l.active.number (l.version_number + 1) moved
+    kept_logged l (Relocated records) job moved (moves_at (l.epoch + 1) records ++ moved)
+    (λ e a. accounted-more (outside_of job.base) job.floor (moves_at (l.epoch + 1) records) moved e a)
+    (moved_accounted (outside_of job.base) job.floor l.active.format l.active.number (l.epoch + 1) moved
     (place_behind l.active.format 16 l.active.frames + 9) records)
     k
 

@@ -10,7 +10,7 @@ use Rattle.vl_model.specs.declared.log_frame.LogFrame.TheVariants.{Relocated}
 use Rattle.vl_model.specs.declared.log_frame.Moved.{Moved}
 use Rattle.vl_engine_model.specs.Jobs.{Made}
 use Rattle.vl_engine_model.specs.Relocation.{Pass, Candidate, moved_of}
-use Rattle.vl_engine_model.specs.Ruling.{Ruling, has_no_number, has_no_version}
+use Rattle.vl_engine_model.specs.Ruling.{Ruling, has_no_number, has_no_epoch}
 use Rattle.vl_engine_model.specs.Rulings.Begin.{begin_ruling}
 use Rattle.vl_engine_model.specs.Rulings.Commit.{Transaction, committed, commit_checked, commit_running, commit_unless}
 use Rattle.vl_engine_model.specs.Rulings.Commit.{commit_ruling, commit_frame}
@@ -96,7 +96,7 @@ module _ (l : Layout) (h : History) where
   rotate_of-rises : (frames : List LogFrame) → Rises l (rotate_of frames l h)
   rotate_of-rises [] = w
   rotate_of-rises (f ∷ fs) =
-      either l (has_no_number l.next_log 1) _ _ w (either l (has_no_version l) _ _ w log_more)
+      either l (has_no_number l.next_log 1) _ _ w (either l (has_no_epoch l) _ _ w log_more)
 
   rotate_unless-rises : (halted : Option FileName) → Rises l (rotate_unless halted l h)
   rotate_unless-rises (Some name) = w
@@ -109,7 +109,7 @@ module _ (l : Layout) (h : History) where
       → Rises l (flush_of l h o)
   flush_of-rises None is = w
   flush_of-rises (Some s) is =
-      either l (has_no_number l.next_table 1) _ _ w (either l (has_no_version l) _ _ w (table_more (flushed l s) refl refl))
+      either l (has_no_number l.next_table 1) _ _ w (either l (has_no_epoch l) _ _ w (table_more (flushed l s) refl refl))
 
   flush_unless-rises : (halted : Option FileName) → Rises l (flush_unless halted l h)
   flush_unless-rises (Some name) = w
@@ -121,7 +121,7 @@ module _ (l : Layout) (h : History) where
   relocate_of-rises : (moved : List Moved) → Rises l (relocate_of l h moved)
   relocate_of-rises [] = w
   relocate_of-rises (m ∷ ms) =
-      either l (has_no_version l) _ _ w
+      either l (has_no_epoch l) _ _ w
       (either l (nat_le (l.active.length + frame_length l.active.format (Relocated (m ∷ ms))) l.room) _ _
       (record { log = omega arith; table = omega arith }) w)
 
@@ -172,7 +172,7 @@ module _ (l : Layout) (h : History) where
     install_checked-rises : (o : Option Named) → Rises l (install_checked l h job made o)
     install_checked-rises (Some named) = record { log = omega arith; table = omega arith }
     install_checked-rises None =
-        either l (has_no_version l) _ _ (record { log = omega arith; table = omega arith })
+        either l (has_no_epoch l) _ _ (record { log = omega arith; table = omega arith })
         (record { log = omega arith; table = omega arith })
 
     install_unless-rises : (halted : Option FileName) → Rises l (install_unless halted l h job made)

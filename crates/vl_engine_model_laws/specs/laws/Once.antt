@@ -196,9 +196,9 @@ module _ (l : Layout) (dropped : List Table)
   files : files_of (switched dropped l).retired ≡ (files_of l.retired ++ map table_of dropped) ++ map log_of
       (rising (filter (is_idle l) l.flushed))
   files =
-      files-both l.retired (map (retired_at l.version_number) (map table_of dropped ++ map log_of (rising (filter (is_idle l) l.flushed))))
+      files-both l.retired (map (retired_at l.epoch) (map table_of dropped ++ map log_of (rising (filter (is_idle l) l.flushed))))
       ∙ ap (λ fs. files_of l.retired ++ fs)
-      (files-retired l.version_number (map table_of dropped ++ map log_of (rising (filter (is_idle l) l.flushed))))
+      (files-retired l.epoch (map table_of dropped ++ map log_of (rising (filter (is_idle l) l.flushed))))
       ∙ sym (append_assoc (files_of l.retired) (map table_of dropped) (map log_of (rising (filter (is_idle l) l.flushed))))
 
   pub switched_once : AreOnce (files_of (switched dropped l).retired)

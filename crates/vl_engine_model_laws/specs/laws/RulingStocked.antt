@@ -11,7 +11,7 @@ use Rattle.vl_model.specs.declared.log_frame.LogFrame.TheVariants.{Relocated}
 use Rattle.vl_model.specs.declared.log_frame.Moved.{Moved}
 use Rattle.vl_engine_model.specs.Jobs.{Made, loose, lent_numbers, AreLent}
 use Rattle.vl_engine_model.specs.Relocation.{Pass, Candidate, moved_of}
-use Rattle.vl_engine_model.specs.Ruling.{Ruling, ended, has_no_number, has_no_version}
+use Rattle.vl_engine_model.specs.Ruling.{Ruling, ended, has_no_number, has_no_epoch}
 use Rattle.vl_engine_model.specs.Rulings.Begin.{begin_ruling}
 use Rattle.vl_engine_model.specs.Rulings.Commit.{Transaction, committed, commit_checked, commit_running, commit_unless}
 use Rattle.vl_engine_model.specs.Rulings.Commit.{commit_ruling, commit_frame}
@@ -95,7 +95,7 @@ module _ (l : Layout) (h : History) (w : IsWellStocked l) where
   rotate_of-well : (frames : List LogFrame) → LeavesWell (rotate_of frames l h)
   rotate_of-well [] = w
   rotate_of-well (f ∷ fs) =
-      either (has_no_number l.next_log 1) _ _ w (either (has_no_version l) _ _ w (well_rotated l w))
+      either (has_no_number l.next_log 1) _ _ w (either (has_no_epoch l) _ _ w (well_rotated l w))
 
   rotate_unless-well : (halted : Option FileName) → LeavesWell (rotate_unless halted l h)
   rotate_unless-well (Some name) = w
@@ -109,7 +109,7 @@ module _ (l : Layout) (h : History) (w : IsWellStocked l) where
       → LeavesWell (flush_of l h o)
   flush_of-well level deeper are None is = w
   flush_of-well level deeper are (Some s) is =
-      either (has_no_number l.next_table 1) _ _ w (either (has_no_version l) _ _ w (well_flushed l w s level deeper is are))
+      either (has_no_number l.next_table 1) _ _ w (either (has_no_epoch l) _ _ w (well_flushed l w s level deeper is are))
 
   flush_unless-well : (level : List Table) (deeper : List (List Table)) → l.levels ≡ level ∷ deeper
       → (halted : Option FileName) → LeavesWell (flush_unless halted l h)
@@ -123,7 +123,7 @@ module _ (l : Layout) (h : History) (w : IsWellStocked l) where
   relocate_of-well : (moved : List Moved) → LeavesWell (relocate_of l h moved)
   relocate_of-well [] = w
   relocate_of-well (m ∷ ms) =
-      either (has_no_version l) _ _ w
+      either (has_no_epoch l) _ _ w
       (either (nat_le (l.active.length + frame_length l.active.format (Relocated (m ∷ ms))) l.room) _ _ (well_relocated l w (m ∷ ms)) w)
 
   relocate_unless-well : (pass : Pass) (batch : List Candidate) (halted : Option FileName)
@@ -178,7 +178,7 @@ module _ (l : Layout) (h : History) (w : IsWellStocked l) where
     install_checked-well : (o : Option Named) → LeavesWell (install_checked l h job made o)
     install_checked-well (Some named) = well_job_ended l w made are
     install_checked-well None =
-        either (has_no_version l) _ _ (well_job_ended l w made are) (well_installed l w job made are standing footed into below distinct)
+        either (has_no_epoch l) _ _ (well_job_ended l w made are) (well_installed l w job made are standing footed into below distinct)
 
     install_unless-well : (halted : Option FileName) → LeavesWell (install_unless halted l h job made)
     install_unless-well (Some name) = well_job_ended l w made are

@@ -40,7 +40,7 @@ use Rattle.vl_engine_model.specs.Stock.{is_in, leads, IsFooted, IsDrawn, IsUnnee
 
 -- ---- pins
 
-own_pin : (l : Layout) → IsStocked l → IsPinned l.version_number l.retired (pin_of l)
+own_pin : (l : Layout) → IsStocked l → IsPinned l.epoch l.retired (pin_of l)
 own_pin l s = record {
   old = omega arith;
   off = all_weaker (IsUnneeded (needed l)) (IsOff (pin_of l)) (λ r is. inr is) l.retired s.unneeded;
@@ -48,33 +48,33 @@ own_pin l s = record {
 
 module _ (l : Layout) (s : IsStocked l) where
   P : Pin → Type 0
-  P = IsPinned l.version_number l.retired
+  P = IsPinned l.epoch l.retired
 
   -- the pins of what lives, of a job, of a pass
-  pub parts : (AllByRecursion (IsPinned l.version_number l.retired) (map (λ (x : Live). x.pin) l.live)
-      × AllByRecursion (IsPinned l.version_number l.retired) (job_pin l.job))
-      × AllByRecursion (IsPinned l.version_number l.retired) (pass_pin l.pass)
+  pub parts : (AllByRecursion (IsPinned l.epoch l.retired) (map (λ (x : Live). x.pin) l.live)
+      × AllByRecursion (IsPinned l.epoch l.retired) (job_pin l.job))
+      × AllByRecursion (IsPinned l.epoch l.retired) (pass_pin l.pass)
   parts =
-      let outer = all_parts (IsPinned l.version_number l.retired) (map (λ (x : Live). x.pin) l.live ++ job_pin l.job)
+      let outer = all_parts (IsPinned l.epoch l.retired) (map (λ (x : Live). x.pin) l.live ++ job_pin l.job)
       (pass_pin l.pass) s.pinned in
-      (all_parts (IsPinned l.version_number l.retired) (map (λ (x : Live). x.pin) l.live) (job_pin l.job) outer.0, outer.1)
+      (all_parts (IsPinned l.epoch l.retired) (map (λ (x : Live). x.pin) l.live) (job_pin l.job) outer.0, outer.1)
 
-  together : (live job pass : List Pin) → AllByRecursion (IsPinned l.version_number l.retired) live
-      → AllByRecursion (IsPinned l.version_number l.retired) job
-      → AllByRecursion (IsPinned l.version_number l.retired) pass
-      → AllByRecursion (IsPinned l.version_number l.retired) ((live ++ job) ++ pass)
+  together : (live job pass : List Pin) → AllByRecursion (IsPinned l.epoch l.retired) live
+      → AllByRecursion (IsPinned l.epoch l.retired) job
+      → AllByRecursion (IsPinned l.epoch l.retired) pass
+      → AllByRecursion (IsPinned l.epoch l.retired) ((live ++ job) ++ pass)
   together live job pass a b c =
-      all_both (IsPinned l.version_number l.retired) (live ++ job) pass (all_both (IsPinned l.version_number l.retired) live job a b) c
+      all_both (IsPinned l.epoch l.retired) (live ++ job) pass (all_both (IsPinned l.epoch l.retired) live job a b) c
 
   pub stocked_begun : (ticket number : ℕ) → IsStocked (begun l ticket number)
   stocked_begun ticket number = record {
     unneeded = s.unneeded;
     retired_drawn = s.retired_drawn;
     pinned = together (map (λ (x : Live). x.pin) (begun l ticket number).live) (job_pin l.job) (pass_pin l.pass)
-        (all_mapped (IsPinned l.version_number l.retired) (λ (x : Live). x.pin) (begun l ticket number).live
-        (all-put_by (λ (x : Live). x.ticket) (λ (x : Live). IsPinned l.version_number l.retired x.pin)
+        (all_mapped (IsPinned l.epoch l.retired) (λ (x : Live). x.pin) (begun l ticket number).live
+        (all-put_by (λ (x : Live). x.ticket) (λ (x : Live). IsPinned l.epoch l.retired x.pin)
         (record { ticket = ticket; number = number; pin = pin_of l }) l.live (own_pin l s)
-        (all_unmapped (IsPinned l.version_number l.retired) (λ (x : Live). x.pin) l.live parts.0.0)))
+        (all_unmapped (IsPinned l.epoch l.retired) (λ (x : Live). x.pin) l.live parts.0.0)))
         parts.0.1 parts.1;
     tables_drawn = s.tables_drawn;
     logs_drawn = s.logs_drawn;
@@ -89,9 +89,9 @@ module _ (l : Layout) (s : IsStocked l) where
     retired_drawn = s.retired_drawn;
     pinned =
         together (map (λ (x : Live). x.pin) (filter (λ (x : Live). not (x.ticket == ticket)) l.live)) (job_pin l.job) (pass_pin l.pass)
-        (all_mapped (IsPinned l.version_number l.retired) (λ (x : Live). x.pin) (filter (λ (x : Live). not (x.ticket == ticket)) l.live)
-        (all_filtered (λ (x : Live). IsPinned l.version_number l.retired x.pin) (λ (x : Live). not (x.ticket == ticket)) l.live
-        (all_unmapped (IsPinned l.version_number l.retired) (λ (x : Live). x.pin) l.live parts.0.0)))
+        (all_mapped (IsPinned l.epoch l.retired) (λ (x : Live). x.pin) (filter (λ (x : Live). not (x.ticket == ticket)) l.live)
+        (all_filtered (λ (x : Live). IsPinned l.epoch l.retired x.pin) (λ (x : Live). not (x.ticket == ticket)) l.live
+        (all_unmapped (IsPinned l.epoch l.retired) (λ (x : Live). x.pin) l.live parts.0.0)))
         parts.0.1 parts.1;
     tables_drawn = s.tables_drawn;
     logs_drawn = s.logs_drawn;
@@ -164,17 +164,17 @@ module _ (l : Layout) (s : IsStocked l) where
     footed = s.footed;
   }
 
-  -- the version number rises, and files retire at the new one
+  -- the epoch rises, and files retire at the new one
   pub later_pins : (fresh : List Retired)
-      → AllByRecursion (λ (r : Retired). r.version_number ≡ l.version_number + 1) fresh
-      → (ps : List Pin) → AllByRecursion (IsPinned l.version_number l.retired) ps
-      → AllByRecursion (IsPinned (l.version_number + 1) (l.retired ++ fresh)) ps
+      → AllByRecursion (λ (r : Retired). r.epoch ≡ l.epoch + 1) fresh
+      → (ps : List Pin) → AllByRecursion (IsPinned l.epoch l.retired) ps
+      → AllByRecursion (IsPinned (l.epoch + 1) (l.retired ++ fresh)) ps
   later_pins fresh at ps all =
-      all_weaker (IsPinned l.version_number l.retired) (IsPinned (l.version_number + 1) (l.retired ++ fresh))
+      all_weaker (IsPinned l.epoch l.retired) (IsPinned (l.epoch + 1) (l.retired ++ fresh))
       (λ p is. record {
         old = let less = is.old in omega (arith, less);
         off = all_both (IsOff p) l.retired fresh is.off
-            (all_weaker (λ (r : Retired). r.version_number ≡ l.version_number + 1) (IsOff p)
+            (all_weaker (λ (r : Retired). r.epoch ≡ l.epoch + 1) (IsOff p)
             (λ r here. let less = is.old in inl (omega (arith, less, here))) fresh at);
       })
       ps all
@@ -192,9 +192,9 @@ stocked_relocated l s records = record {
   unneeded = s.unneeded;
   retired_drawn = s.retired_drawn;
   pinned =
-      subst (λ (ps : List Pin). AllByRecursion (IsPinned (l.version_number + 1) l.retired)
-      ((map (λ (x : Live). x.pin) l.live ++ ps) ++ pass_pin l.pass)) (sym (noted_pin (l.version_number + 1) records l.job))
-      (subst (λ (rs : List Retired). AllByRecursion (IsPinned (l.version_number + 1) rs) (pins l))
+      subst (λ (ps : List Pin). AllByRecursion (IsPinned (l.epoch + 1) l.retired)
+      ((map (λ (x : Live). x.pin) l.live ++ ps) ++ pass_pin l.pass)) (sym (noted_pin (l.epoch + 1) records l.job))
+      (subst (λ (rs : List Retired). AllByRecursion (IsPinned (l.epoch + 1) rs) (pins l))
       (nothing_more l.retired) (later_pins l s [] tt (pins l) s.pinned));
   tables_drawn = s.tables_drawn;
   logs_drawn = s.logs_drawn;
@@ -277,7 +277,7 @@ stocked_rotated l s = record {
       (λ r is. drawn_later l.next_log l.next_table (l.next_log + 1) l.next_table (omega arith) (omega arith) r.file is)
       l.retired s.retired_drawn;
   pinned =
-      subst (λ (rs : List Retired). AllByRecursion (IsPinned (l.version_number + 1) rs) (pins l))
+      subst (λ (rs : List Retired). AllByRecursion (IsPinned (l.epoch + 1) rs) (pins l))
       (nothing_more l.retired) (later_pins l s [] tt (pins l) s.pinned);
   tables_drawn = s.tables_drawn;
   logs_drawn = (
@@ -350,14 +350,14 @@ both_all P Q [] a b = tt
 both_all P Q (x ∷ xs) a b = ((a.0, b.0), both_all P Q xs a.1 b.1)
 
 module _ (l : Layout) (s : IsStocked l) (dropped : List Table)
-    (early : AllByRecursion (λ (p : Pin). p.version_number < l.version_number) (pins l))
+    (early : AllByRecursion (λ (p : Pin). p.epoch < l.epoch) (pins l))
     (free : AllByRecursion (λ (t : Table). (is_in (table_of t) (needed l) ≡ false) × (t.number < l.next_table)) dropped) where
   R : Retired → Type 0
-  R r = IsUnneeded (needed l) r × (IsDrawn l.next_log l.next_table r.file × (r.version_number ≡ l.version_number))
+  R r = IsUnneeded (needed l) r × (IsDrawn l.next_log l.next_table r.file × (r.epoch ≡ l.epoch))
 
   fresh : List Retired
   fresh =
-      map (retired_at l.version_number) (map table_of dropped ++ map log_of (rising (filter (is_idle l) l.flushed)))
+      map (retired_at l.epoch) (map table_of dropped ++ map log_of (rising (filter (is_idle l) l.flushed)))
 
   idle_logs : AllByRecursion (λ (x : Segment). (is_in (log_of x) (needed l) ≡ false) × (x.number < l.next_log))
       (rising (filter (is_idle l) l.flushed))
@@ -368,28 +368,28 @@ module _ (l : Layout) (s : IsStocked l) (dropped : List Table)
       (λ x drawn idle. (idle_unneeded l s.footed s.falling x idle, drawn)) l.flushed s.flushed_drawn)
 
   fresh_are : AllByRecursion
-      (λ (r : Retired). IsUnneeded (needed l) r × (IsDrawn l.next_log l.next_table r.file × (r.version_number ≡ l.version_number)))
-      (map (retired_at l.version_number) (map table_of dropped ++ map log_of (rising (filter (is_idle l) l.flushed))))
+      (λ (r : Retired). IsUnneeded (needed l) r × (IsDrawn l.next_log l.next_table r.file × (r.epoch ≡ l.epoch)))
+      (map (retired_at l.epoch) (map table_of dropped ++ map log_of (rising (filter (is_idle l) l.flushed))))
   fresh_are =
       let Q : Retired → Type 0 =
-      λ r. IsUnneeded (needed l) r × (IsDrawn l.next_log l.next_table r.file × (r.version_number ≡ l.version_number)) in
-      all_mapped Q (retired_at l.version_number) (map table_of dropped ++ map log_of (rising (filter (is_idle l) l.flushed)))
-      (all_both (λ (f : FileName). Q (retired_at l.version_number f)) (map table_of dropped)
+      λ r. IsUnneeded (needed l) r × (IsDrawn l.next_log l.next_table r.file × (r.epoch ≡ l.epoch)) in
+      all_mapped Q (retired_at l.epoch) (map table_of dropped ++ map log_of (rising (filter (is_idle l) l.flushed)))
+      (all_both (λ (f : FileName). Q (retired_at l.epoch f)) (map table_of dropped)
       (map log_of (rising (filter (is_idle l) l.flushed)))
-      (all_mapped (λ (f : FileName). Q (retired_at l.version_number f)) table_of dropped
+      (all_mapped (λ (f : FileName). Q (retired_at l.epoch f)) table_of dropped
       (all_weaker (λ (t : Table). (is_in (table_of t) (needed l) ≡ false) × (t.number < l.next_table))
-      (λ (t : Table). Q (retired_at l.version_number (table_of t))) (λ t is. (is.0, (is.1, refl))) dropped free))
-      (all_mapped (λ (f : FileName). Q (retired_at l.version_number f)) log_of (rising (filter (is_idle l) l.flushed))
+      (λ (t : Table). Q (retired_at l.epoch (table_of t))) (λ t is. (is.0, (is.1, refl))) dropped free))
+      (all_mapped (λ (f : FileName). Q (retired_at l.epoch f)) log_of (rising (filter (is_idle l) l.flushed))
       (all_weaker (λ (x : Segment). (is_in (log_of x) (needed l) ≡ false) × (x.number < l.next_log))
-      (λ (x : Segment). Q (retired_at l.version_number (log_of x))) (λ x is. (is.0, (is.1, refl)))
+      (λ (x : Segment). Q (retired_at l.epoch (log_of x))) (λ x is. (is.0, (is.1, refl)))
       (rising (filter (is_idle l) l.flushed)) idle_logs)))
 
   pub stocked_switched : IsStocked (switched dropped l)
   stocked_switched =
       let Q : Retired → Type 0 =
-      λ r. IsUnneeded (needed l) r × (IsDrawn l.next_log l.next_table r.file × (r.version_number ≡ l.version_number)) in
+      λ r. IsUnneeded (needed l) r × (IsDrawn l.next_log l.next_table r.file × (r.epoch ≡ l.epoch)) in
       let new : List Retired =
-      map (retired_at l.version_number) (map table_of dropped ++ map log_of (rising (filter (is_idle l) l.flushed))) in
+      map (retired_at l.epoch) (map table_of dropped ++ map log_of (rising (filter (is_idle l) l.flushed))) in
       record {
         unneeded =
             all_both (IsUnneeded (needed l)) l.retired new s.unneeded (all_weaker Q (IsUnneeded (needed l)) (λ r is. is.0) new fresh_are);
@@ -397,8 +397,8 @@ module _ (l : Layout) (s : IsStocked l) (dropped : List Table)
             all_both (λ (r : Retired). IsDrawn l.next_log l.next_table r.file) l.retired new s.retired_drawn
             (all_weaker Q (λ (r : Retired). IsDrawn l.next_log l.next_table r.file) (λ r is. is.1.0) new fresh_are);
         pinned =
-            all_weaker (λ (p : Pin). IsPinned l.version_number l.retired p × (p.version_number < l.version_number))
-            (IsPinned l.version_number (l.retired ++ new))
+            all_weaker (λ (p : Pin). IsPinned l.epoch l.retired p × (p.epoch < l.epoch))
+            (IsPinned l.epoch (l.retired ++ new))
             (λ p is. record {
               old = is.0.old;
               off =
@@ -406,7 +406,7 @@ module _ (l : Layout) (s : IsStocked l) (dropped : List Table)
                   (all_weaker Q (IsOff p) (λ r at. let less = is.1 in let here = at.1.1 in inl
                   (omega (arith, less, here))) new fresh_are);
             })
-            (pins l) (both_all (IsPinned l.version_number l.retired) (λ (p : Pin). p.version_number < l.version_number)
+            (pins l) (both_all (IsPinned l.epoch l.retired) (λ (p : Pin). p.epoch < l.epoch)
             (pins l) s.pinned early);
         tables_drawn = s.tables_drawn;
         logs_drawn = s.logs_drawn;

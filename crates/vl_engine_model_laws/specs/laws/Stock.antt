@@ -35,10 +35,10 @@ not_needed : (r : Retired) (ps : List Pin) → AllByRecursion (λ (p : Pin). IsO
     → is_held ps r ≡ false → AllByRecursion (λ (p : Pin). is_in r.file p.needs ≡ false) ps
 not_needed r [] off free = tt
 not_needed r (p ∷ ps) off free =
-    let both = or_false (nat_lt p.version_number r.version_number) (is_held ps r) free in (
+    let both = or_false (nat_lt p.epoch r.epoch) (is_held ps r) free in (
       ⊎_elim
-          (λ (less : p.version_number < r.version_number). absurd
-          (let h = both.0 in let t : nat_lt p.version_number r.version_number ≡ true = grind (arith, nat_tests)
+          (λ (less : p.epoch < r.epoch). absurd
+          (let h = both.0 in let t : nat_lt p.epoch r.epoch ≡ true = grind (arith, nat_tests)
           in true_false (sym t ∙ h)))
           (λ (unneeded : is_in r.file p.needs ≡ false). unneeded)
           off.0,
@@ -66,7 +66,7 @@ swept_are_loose least l s =
     l.retired
     (three l.retired s.unneeded s.retired_drawn
     (transposed IsOff (pins l) l.retired
-    (all_weaker (IsPinned l.version_number l.retired) (λ (p : Pin). AllByRecursion (IsOff p) l.retired)
+    (all_weaker (IsPinned l.epoch l.retired) (λ (p : Pin). AllByRecursion (IsOff p) l.retired)
     (λ p is. is.off) (pins l) s.pinned))))
   where
     three : (rs : List Retired) → AllByRecursion (IsUnneeded (needed l)) rs

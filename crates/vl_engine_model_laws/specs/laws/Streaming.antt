@@ -80,9 +80,9 @@ stocked_lent l s d =
       footed = s.footed;
     }
   where
-    two : (ps : List Pin) → AllByRecursion (IsPinned l.version_number l.retired) ps
+    two : (ps : List Pin) → AllByRecursion (IsPinned l.epoch l.retired) ps
         → AllByRecursion (λ (p : Pin). AllByRecursion (IsDrawn l.next_log l.next_table) p.needs) ps
-        → AllByRecursion (IsPinned l.version_number (l.retired ++ retired_at 0 (TableFile l.next_table) ∷ [])) ps
+        → AllByRecursion (IsPinned l.epoch (l.retired ++ retired_at 0 (TableFile l.next_table) ∷ [])) ps
     two [] a b = tt
     two (p ∷ ps) a b = (
       record {
@@ -100,7 +100,7 @@ stocked_lent l s d =
 abbrev pub putting : Layout → Job → List Table → List Retired → Layout
 putting l job made rest = record l {
   levels = replaced job.target job.inputs made l.levels;
-  version_number = l.version_number + 1;
+  epoch = l.epoch + 1;
   job = None;
   retired = rest;
 }
@@ -122,7 +122,7 @@ module _ (l : Layout) (job : Job) (made : List Table) (rest : List Retired) (k :
     -- those that stay retired or lent are others than those made
     (rest_unneeded : AllByRecursion (IsUnneeded (needed l)) rest)
     (rest_drawn : AllByRecursion (λ (r : Retired). IsDrawn l.next_log l.next_table r.file) rest)
-    (rest_pinned : AllByRecursion (IsPinned l.version_number rest) (pins l))
+    (rest_pinned : AllByRecursion (IsPinned l.epoch rest) (pins l))
     (off : AllByRecursion (λ (r : Retired). is_in r.file (map table_of made) ≡ false) rest)
     (given : AllByRecursion (λ (t : Table). t.number < l.next_table) made)
     -- and no input is one of them
@@ -207,13 +207,13 @@ module _ (l : Layout) (job : Job) (made : List Table) (rest : List Retired) (k :
       other)
       (needed_parts f (map table_of (tables (putting l job made rest))) (flat_map pointed_logs (tables (putting l job made rest))) L there)
 
-  put_free_pins : AllByRecursion (IsPinned l.version_number rest) (pins (putting l job made rest))
+  put_free_pins : AllByRecursion (IsPinned l.epoch rest) (pins (putting l job made rest))
   put_free_pins =
-      let outer = all_parts (IsPinned l.version_number rest) (map (λ (x : Live). x.pin) l.live ++ job_pin l.job)
+      let outer = all_parts (IsPinned l.epoch rest) (map (λ (x : Live). x.pin) l.live ++ job_pin l.job)
       (pass_pin l.pass) rest_pinned in
-      let inner = all_parts (IsPinned l.version_number rest) (map (λ (x : Live). x.pin) l.live) (job_pin l.job) outer.0 in
-      all_both (IsPinned l.version_number rest) (map (λ (x : Live). x.pin) l.live ++ []) (pass_pin l.pass)
-      (all_both (IsPinned l.version_number rest) (map (λ (x : Live). x.pin) l.live) [] inner.0 tt) outer.1
+      let inner = all_parts (IsPinned l.epoch rest) (map (λ (x : Live). x.pin) l.live) (job_pin l.job) outer.0 in
+      all_both (IsPinned l.epoch rest) (map (λ (x : Live). x.pin) l.live ++ []) (pass_pin l.pass)
+      (all_both (IsPinned l.epoch rest) (map (λ (x : Live). x.pin) l.live) [] inner.0 tt) outer.1
 
   put_inputs_gone : AllByRecursion
       (λ (t : Table). (is_in (table_of t) (needed (putting l job made rest)) ≡ false) × (t.number < l.next_table))
@@ -257,7 +257,7 @@ module _ (l : Layout) (job : Job) (made : List Table) (rest : List Retired) (k :
         unneeded = still_off made (needed l) (needed (putting l job made rest)) put_gains rest rest_unneeded off;
         retired_drawn = rest_drawn;
         pinned =
-            all_weaker (IsPinned l.version_number rest) (IsPinned (l.version_number + 1) rest)
+            all_weaker (IsPinned l.epoch rest) (IsPinned (l.epoch + 1) rest)
             (λ p is. record { old = (let less = is.old in omega (arith, less)); off = is.off })
             (pins (putting l job made rest)) put_free_pins;
         tables_drawn =
@@ -271,4 +271,4 @@ module _ (l : Layout) (job : Job) (made : List Table) (rest : List Retired) (k :
             (all_weaker IsFooted (λ (t : Table). is_among job.inputs t ≡ false → IsFooted t) (λ t is out. is) (tables l) k.footed);
       } in
       stocked_switched (putting l job made rest) stocked (filter (is_among job.inputs) (tables l))
-      (early_pins l.version_number rest (pins (putting l job made rest)) put_free_pins) put_inputs_gone
+      (early_pins l.epoch rest (pins (putting l job made rest)) put_free_pins) put_inputs_gone

@@ -205,9 +205,9 @@ new_table_gains next_log next_table t ts a s ss numbered are into waits f there 
     (needed_parts f (table_of t ∷ T) (pointed_logs t ++ P) (map log_of (a ∷ but_oldest ss)) there)
 
 pub early_pins : (v : ℕ) (rs : List Retired) (ps : List Pin) → AllByRecursion (IsPinned v rs) ps
-    → AllByRecursion (λ (p : Pin). p.version_number < v + 1) ps
+    → AllByRecursion (λ (p : Pin). p.epoch < v + 1) ps
 early_pins v rs ps all =
-    all_weaker (IsPinned v rs) (λ (p : Pin). p.version_number < v + 1) (λ p is. let less = is.old in omega (arith, less)) ps all
+    all_weaker (IsPinned v rs) (λ (p : Pin). p.epoch < v + 1) (λ p is. let less = is.old in omega (arith, less)) ps all
 
 -- the layout of a flush before files retire
 abbrev pub flushing : Layout → Segment → Layout
@@ -217,7 +217,7 @@ flushing l s = record l {
   levels = in_front (flushed_table l s) l.levels;
   covered = Rattle.vl_engine_model.specs.Rulings.Flush.covered_by s.frames l.covered;
   next_table = l.next_table + 1;
-  version_number = l.version_number + 1;
+  epoch = l.epoch + 1;
 }
 
 pub stocked_flushed : (l : Layout) (s : Segment) (level : List Table) (deeper : List (List Table)) → IsStocked l
@@ -241,7 +241,7 @@ stocked_flushed l s level deeper k waits are =
           (λ r is. drawn_later l.next_log l.next_table l.next_log (l.next_table + 1) (omega arith) (omega arith) r.file
           is) l.retired k.retired_drawn;
       pinned =
-          subst (λ (rs : List Retired). AllByRecursion (IsPinned (l.version_number + 1) rs) (pins l))
+          subst (λ (rs : List Retired). AllByRecursion (IsPinned (l.epoch + 1) rs) (pins l))
           (nothing_more l.retired) (later_pins l k [] tt (pins l) k.pinned);
       tables_drawn = subst (AllByRecursion (λ (u : Table). u.number < l.next_table + 1)) (sym new) (
         omega arith,
@@ -258,7 +258,7 @@ stocked_flushed l s level deeper k waits are =
           subst (AllByRecursion IsFooted) (sym new)
           (record { points = refl; bytes = placed_bytes s.number (memtable s) (own_memtable s) }, k.footed);
     } in
-    stocked_switched (flushing l s) stocked [] (early_pins l.version_number l.retired (pins l) k.pinned) tt
+    stocked_switched (flushing l s) stocked [] (early_pins l.epoch l.retired (pins l) k.pinned) tt
 
 -- ---- an install
 
@@ -358,8 +358,8 @@ stocked_swept l gone k = record {
       all_filtered (λ (r : Retired). IsDrawn l.next_log l.next_table r.file)
       (λ (r : Retired). not (list_any (is_same r.file) gone)) l.retired k.retired_drawn;
   pinned =
-      all_weaker (IsPinned l.version_number l.retired)
-      (IsPinned l.version_number (filter (λ (r : Retired). not (list_any (is_same r.file) gone)) l.retired))
+      all_weaker (IsPinned l.epoch l.retired)
+      (IsPinned l.epoch (filter (λ (r : Retired). not (list_any (is_same r.file) gone)) l.retired))
       (λ p is. record {
         old = is.old;
         off = all_filtered (IsOff p)

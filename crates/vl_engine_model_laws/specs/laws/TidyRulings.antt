@@ -24,7 +24,7 @@ use Rattle.vl_engine_model.specs.Logs.{memtable}
 use Rattle.vl_engine_model.specs.Merging.{outputs}
 use Rattle.vl_engine_model.specs.OpenJobs.{IsOpenWell}
 use Rattle.vl_engine_model.specs.Relocation.{Candidate, Pass, moved_of}
-use Rattle.vl_engine_model.specs.Ruling.{Ruling, has_no_number, has_no_version, is_idle}
+use Rattle.vl_engine_model.specs.Ruling.{Ruling, has_no_number, has_no_epoch, is_idle}
 use Rattle.vl_engine_model.specs.Rulings.Abandon.{abandon_ruling}
 use Rattle.vl_engine_model.specs.Rulings.Begin.{begin_ruling}
 use Rattle.vl_engine_model.specs.Rulings.Commit.{Transaction, commit_checked, commit_frame, commit_ruling, commit_running}
@@ -139,7 +139,7 @@ module _ (logs : Logs) (l : Layout) (h : History) (t : IsTidy logs l h) where
   rotate_by [] = λ shows. t
   rotate_by (f ∷ fs) =
       either (has_no_number l.next_log 1) _ _ (λ shows. t)
-      (λ one. either (has_no_version l) _ _ (λ shows. t) (λ two shows. tidy_rotated logs l h t shows))
+      (λ one. either (has_no_epoch l) _ _ (λ shows. t) (λ two shows. tidy_rotated logs l h t shows))
 
   rotate_unless-tidy : (halted : Option FileName) → LeavesTidy (rotate_unless halted l h)
   rotate_unless-tidy (Some name) = λ shows. t
@@ -153,7 +153,7 @@ module _ (logs : Logs) (l : Layout) (h : History) (t : IsTidy logs l h) where
   flush_by (Some s) is =
       let first = first_level l.levels t.levels in
       either (has_no_number l.next_table 1) _ _ (λ shows. t)
-      (λ one. either (has_no_version l) _ _ (λ shows. t) (λ two shows. tidy_flushed logs l h t s is shows first.0 first.1 first.2))
+      (λ one. either (has_no_epoch l) _ _ (λ shows. t) (λ two shows. tidy_flushed logs l h t s is shows first.0 first.1 first.2))
 
   flush_unless-tidy : (halted : Option FileName) → LeavesTidy (flush_unless halted l h)
   flush_unless-tidy (Some name) = λ shows. t
@@ -170,7 +170,7 @@ module _ (logs : Logs) (l : Layout) (h : History) (t : IsTidy logs l h) where
       → LeavesTidy (relocate_of l h moved)
   relocate_by [] known = λ shows. t
   relocate_by (m ∷ ms) known =
-      either (has_no_version l) _ _ (λ shows. t)
+      either (has_no_epoch l) _ _ (λ shows. t)
       (λ one. either (nat_le (l.active.length + frame_length l.active.format (Relocated (m ∷ ms))) l.room) _ _
       (λ shows. tidy_relocated logs l h t (m ∷ ms) known shows) (λ two shows. t))
 
@@ -303,7 +303,7 @@ module _ (logs : Logs) (l : Layout) (h : History) (t : IsTidy logs l h) where
 
     install_by : (named : Option Named) → LeavesTidy (install_checked l h o.job made named)
     install_by (Some named) = λ shows. given_up
-    install_by None = either (has_no_version l) _ _ (λ shows. given_up) (λ no shows. tidy_installed shows)
+    install_by None = either (has_no_epoch l) _ _ (λ shows. given_up) (λ no shows. tidy_installed shows)
 
     install_unless-tidy : (halted : Option FileName) → LeavesTidy (install_unless halted l h o.job made)
     install_unless-tidy (Some name) = λ shows. given_up

@@ -397,14 +397,14 @@ module _ (logs : Logs) (l : Layout) (h : History) (t : IsTidy logs l h) where
   }
     where
       by : (j : Option OpenJob) → l.job ≡ j → (o : OpenJob)
-          → with_moves (l.version_number + 1) moved j ≡ Some o
+          → with_moves (l.epoch + 1) moved j ≡ Some o
           → IsOpenWell (relocated l moved) h o.job o.moved
       by None was o is = absurd cc
       by (Some j) was o is =
           let job : j.job ≡ o.job = cc in
-          let with_new : moves_at (l.version_number + 1) moved ++ j.moved ≡ o.moved = cc in
+          let with_new : moves_at (l.epoch + 1) moved ++ j.moved ≡ o.moved = cc in
           subst (λ (m : List (List ℕ × ℕ)). IsOpenWell (relocated l moved) h o.job m) with_new
-          (subst (λ (x : Job). IsOpenWell (relocated l moved) h x (moves_at (l.version_number + 1) moved ++ j.moved))
+          (subst (λ (x : Job). IsOpenWell (relocated l moved) h x (moves_at (l.epoch + 1) moved ++ j.moved))
           job (open_relocated l h j.job j.moved (t.job j was) moved))
 
   -- ---- a rotation

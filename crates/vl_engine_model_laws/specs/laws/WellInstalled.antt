@@ -190,7 +190,7 @@ module _ (l : Layout) (w : IsWellStocked l) where
         (stocked_put (with_lent l) job made.tables rest w.stocked
         (within (IsUnneeded (needed l)) w.stocked.unneeded)
         (within (λ (r : Retired). IsDrawn l.next_log l.next_table r.file) w.stocked.retired_drawn)
-        (all_weaker (IsPinned l.version_number (loose (lent_numbers l.job) ++ l.retired)) (IsPinned l.version_number rest)
+        (all_weaker (IsPinned l.epoch (loose (lent_numbers l.job) ++ l.retired)) (IsPinned l.epoch rest)
         (λ p is. record { old = is.old; off = within (IsOff p) is.off }) (pins l) w.stocked.pinned)
         (all_both (λ (r : Retired). is_in r.file (map table_of made.tables) ≡ false) l.retired (loose made.leavings)
         (all_not_made l.retired w.lent_apart made.tables lent.0)

@@ -53,7 +53,7 @@ pub restocked : (l : Layout) (rs : List Retired) → IsStocked l
 restocked l rs s within = record {
   unneeded = within (IsUnneeded (needed l)) s.unneeded;
   retired_drawn = within (λ (r : Retired). IsDrawn l.next_log l.next_table r.file) s.retired_drawn;
-  pinned = all_weaker (IsPinned l.version_number l.retired) (IsPinned l.version_number rs)
+  pinned = all_weaker (IsPinned l.epoch l.retired) (IsPinned l.epoch rs)
       (λ p is. record { old = is.old; off = within (IsOff p) is.off }) (pins l) s.pinned;
   tables_drawn = s.tables_drawn;
   logs_drawn = s.logs_drawn;
@@ -67,7 +67,7 @@ rejobbed l job same s = record {
   unneeded = s.unneeded;
   retired_drawn = s.retired_drawn;
   pinned =
-      subst (λ (ps : List Pin). AllByRecursion (IsPinned l.version_number l.retired)
+      subst (λ (ps : List Pin). AllByRecursion (IsPinned l.epoch l.retired)
       ((map (λ (x : Live). x.pin) l.live ++ ps) ++ pass_pin l.pass)) (sym same) s.pinned;
   tables_drawn = s.tables_drawn;
   logs_drawn = s.logs_drawn;
@@ -221,7 +221,7 @@ module _ (l : Layout) (w : IsWellStocked l) where
 
   pub well_relocated : (moved : List Moved) → IsWellStocked (relocated l moved)
   well_relocated moved =
-      let same = sym (lent_moved (l.version_number + 1) moved l.job) in
+      let same = sym (lent_moved (l.epoch + 1) moved l.job) in
       record {
         stocked =
             subst (λ (ns : List ℕ). IsStocked (record (relocated l moved) { retired = loose ns ++ l.retired })) same
@@ -301,7 +301,7 @@ module _ (l : Layout) (w : IsWellStocked l) where
     lent_once = w.lent_once;
     lent_apart =
         all_both (λ (r : Retired). IsNotLent (lent_numbers l.job) r.file) l.retired _ w.lent_apart
-        (logs_apart (lent_numbers l.job) (l.version_number + 1) _);
+        (logs_apart (lent_numbers l.job) (l.epoch + 1) _);
     once =
         switched_once (flushing l s) [] (subst AreOnce (sym (nothing_more (files_of l.retired))) w.once)
         (waiting_off s waits, w.flushed_apart);

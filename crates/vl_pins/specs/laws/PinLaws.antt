@@ -43,24 +43,24 @@ module _ (ticket number : ℕ) (pin : Pin) where
   new = record { ticket = ticket; number = number; pin = pin }
 
   abbrev put_so : Live → List Ticket → Ordering → List Ticket
-  put_so x ts order = by_order order ((ticket, pin.version_number) ∷ (x.ticket, x.pin.version_number) ∷ ts)
-      ((x.ticket, pin.version_number) ∷ ts) ((x.ticket, x.pin.version_number) ∷ put nat_cmp ticket pin.version_number ts)
+  put_so x ts order = by_order order ((ticket, pin.epoch) ∷ (x.ticket, x.pin.epoch) ∷ ts)
+      ((x.ticket, pin.epoch) ∷ ts) ((x.ticket, x.pin.epoch) ∷ put nat_cmp ticket pin.epoch ts)
 
   pinned-begun : (xs : List Live) → has_ticket ticket (tickets_of xs) ≡ false
       → pinned_of (put_by (λ (x : Live). x.ticket) (record { ticket = ticket; number = number; pin = pin }) xs)
-      ≡ put nat_cmp ticket pin.version_number (pinned_of xs)
+      ≡ put nat_cmp ticket pin.epoch (pinned_of xs)
   pinned-begun [] free = refl
   pinned-begun (x ∷ xs) free =
       let parts = or_false (x.ticket == ticket) (has_ticket ticket (tickets_of xs)) free in
       by (nat_lt x.ticket ticket) refl parts.0 (pinned-begun xs parts.1)
     where
       by : (b : Bool) → nat_lt x.ticket ticket ≡ b → (x.ticket == ticket) ≡ false
-          → pinned_of (put_by (λ (y : Live). y.ticket) new xs) ≡ put nat_cmp ticket pin.version_number (pinned_of xs)
+          → pinned_of (put_by (λ (y : Live). y.ticket) new xs) ≡ put nat_cmp ticket pin.epoch (pinned_of xs)
           → pinned_of (cond b (x ∷ put_by (λ (y : Live). y.ticket) new xs) (new ∷ x ∷ xs))
-          ≡ put nat_cmp ticket pin.version_number ((x.ticket, x.pin.version_number) ∷ pinned_of xs)
+          ≡ put nat_cmp ticket pin.epoch ((x.ticket, x.pin.epoch) ∷ pinned_of xs)
       by true is other later =
           let order : nat_cmp ticket x.ticket ≡ Greater = grind (arith, nat_tests, is) in
-          ap (λ (ts : List Ticket). (x.ticket, x.pin.version_number) ∷ ts) later ∙ sym (ap (put_so x (pinned_of xs)) order)
+          ap (λ (ts : List Ticket). (x.ticket, x.pin.epoch) ∷ ts) later ∙ sym (ap (put_so x (pinned_of xs)) order)
       by false is other later =
           let order : nat_cmp ticket x.ticket ≡ Less = grind (arith, nat_tests, is, other) in
           sym (ap (put_so x (pinned_of xs)) order)
@@ -106,13 +106,13 @@ same_max a b le = omega (arith, le)
 
 module _ (pins : Pins) (l : Layout) (are : ArePinsOf pins l) where
   abbrev risen : LiveTickets
-  risen = raised l.version_number pins.live
+  risen = raised l.epoch pins.live
 
-  last_risen : risen.last ≡ l.version_number
-  last_risen = same_max pins.live.last l.version_number are.last
+  last_risen : risen.last ≡ l.epoch
+  last_risen = same_max pins.live.last l.epoch are.last
 
   -- The pins stay where the present number is noted,
-  pub pins_raised : ArePinsOf (record pins { live = raised l.version_number pins.live }) l
+  pub pins_raised : ArePinsOf (record pins { live = raised l.epoch pins.live }) l
   pins_raised = record {
     live = are.live;
     merge = are.merge;
@@ -128,7 +128,7 @@ module _ (pins : Pins) (l : Layout) (are : ArePinsOf pins l) where
     free_is = ap (oracle.free_from 0) are.live ∙ same_free 0 l.live
 
     -- where something begins,
-    pub pins_begun : ArePinsOf (record pins { live = oracle.begun (raised l.version_number pins.live) })
+    pub pins_begun : ArePinsOf (record pins { live = oracle.begun (raised l.epoch pins.live) })
         (begun l (tickets.free_ticket (tickets_of l.live)) number)
     pins_begun = record {
       live = (λ i. put nat_cmp (free_is i) (last_risen i) (are.live i))
@@ -142,7 +142,7 @@ module _ (pins : Pins) (l : Layout) (are : ArePinsOf pins l) where
   pub pins_ended : (ticket : ℕ) → ArePinsOf (record pins { live = oracle.ended ticket pins.live }) (ended ticket l)
   pins_ended ticket = record {
     live = ap (filter (λ (t : Ticket). not (eq_by_cmp nat_cmp ticket t.0))) are.live ∙ sym (map-filter
-        (λ (x : Live). (x.ticket, x.pin.version_number)) (λ (x : Live). not (x.ticket == ticket))
+        (λ (x : Live). (x.ticket, x.pin.epoch)) (λ (x : Live). not (x.ticket == ticket))
         (λ (t : Ticket). not (eq_by_cmp nat_cmp ticket t.0))
         (λ x. ap not (unsigned_tied ticket x.ticket ∙ turned ticket x.ticket)) l.live);
     merge = are.merge;
@@ -157,11 +157,11 @@ module _ (pins : Pins) (l : Layout) (are : ArePinsOf pins l) where
 pub pins_begun_ended : (pins : Pins) (l : Layout) → ArePinsOf pins l → IsRising (λ (x : Live). x.ticket) l.live
     → ArePinsOf (record pins {
       live = oracle.ended (oracle.free_ticket pins.live)
-          (oracle.begun (raised l.version_number pins.live));
+          (oracle.begun (raised l.epoch pins.live));
     }) l
 pins_begun_ended pins l are rising =
     let t = tickets.free_ticket (tickets_of l.live) in
-    let then = pins_ended (record pins { live = oracle.begun (raised l.version_number pins.live) }) (begun l t 0)
+    let then = pins_ended (record pins { live = oracle.begun (raised l.epoch pins.live) }) (begun l t 0)
     (pins_begun pins l are rising 0) (oracle.free_ticket pins.live) in
     let free : oracle.free_ticket pins.live ≡ t = ap (oracle.free_from 0) are.live ∙ same_free 0 l.live in
     record {
@@ -216,26 +216,26 @@ or_turned false false false = refl
 or_none_there : (a b : Bool) → a ≡ (false || a)
 or_none_there a b = refl
 
-module _ (l : Layout) (r : Retired) (old : r.version_number ≤ l.version_number) where
+module _ (l : Layout) (r : Retired) (old : r.epoch ≤ l.epoch) where
   abbrev n : ℕ
-  n = r.version_number
+  n = r.epoch
 
   abbrev is_below : Pin → Bool
-  is_below p = nat_lt p.version_number n
+  is_below p = nat_lt p.epoch n
 
   job_below : (o : Option OpenJob) (m : ℕ)
-      → nat_lt (least (option_map (λ (j : OpenJob). j.pin.version_number) o) m) n ≡ (list_any is_below (job_pin o) || nat_lt m n)
+      → nat_lt (least (option_map (λ (j : OpenJob). j.pin.epoch) o) m) n ≡ (list_any is_below (job_pin o) || nat_lt m n)
   job_below None m = refl
-  job_below (Some j) m = below_min j.pin.version_number m n ∙ ap (λ (b : Bool). b || nat_lt m n) (sym (or_false_is (is_below j.pin)))
+  job_below (Some j) m = below_min j.pin.epoch m n ∙ ap (λ (b : Bool). b || nat_lt m n) (sym (or_false_is (is_below j.pin)))
     where
       or_false_is : (b : Bool) → (b || false) ≡ b
       or_false_is true = refl
       or_false_is false = refl
 
   pass_below : (o : Option OpenPass) (m : ℕ)
-      → nat_lt (least (option_map (λ (p : OpenPass). p.pin.version_number) o) m) n ≡ (list_any is_below (pass_pin o) || nat_lt m n)
+      → nat_lt (least (option_map (λ (p : OpenPass). p.pin.epoch) o) m) n ≡ (list_any is_below (pass_pin o) || nat_lt m n)
   pass_below None m = refl
-  pass_below (Some p) m = below_min p.pin.version_number m n ∙ ap (λ (b : Bool). b || nat_lt m n) (sym (or_false_is (is_below p.pin)))
+  pass_below (Some p) m = below_min p.pin.epoch m n ∙ ap (λ (b : Bool). b || nat_lt m n) (sym (or_false_is (is_below p.pin)))
     where
       or_false_is : (b : Bool) → (b || false) ≡ b
       or_false_is true = refl
@@ -247,7 +247,7 @@ module _ (l : Layout) (r : Retired) (old : r.version_number ≤ l.version_number
   live_any (x ∷ xs) = ap (λ (b : Bool). is_below x.pin || b) (live_any xs)
 
   -- A pin holds the file exactly where the least number that is pinned is below that of its retirement.
-  held_below : (pins : Pins) → ArePinsOf pins l → is_held (pins_of l) r ≡ nat_lt (bound_of l.version_number pins) n
+  held_below : (pins : Pins) → ArePinsOf pins l → is_held (pins_of l) r ≡ nat_lt (bound_of l.epoch pins) n
   held_below pins are =
       any-append is_below (map (λ (x : Live). x.pin) l.live ++ job_pin l.job) (pass_pin l.pass)
       ∙ ap (λ (b : Bool). b || list_any is_below (pass_pin l.pass)) (any-append is_below (map (λ (x : Live). x.pin) l.live) (job_pin l.job))
@@ -259,7 +259,7 @@ module _ (l : Layout) (r : Retired) (old : r.version_number ≤ l.version_number
       ∙ (λ i. nat_lt (least (sym are.merge i) (least (sym are.pass i) (floor_of risen_now))) n)
     where
       risen_now : LiveTickets
-      risen_now = raised l.version_number pins.live
+      risen_now = raised l.epoch pins.live
 
       turned : (a b c : Bool) → ((a || b) || c) ≡ (b || (c || a))
       turned true true c = refl
@@ -271,12 +271,12 @@ module _ (l : Layout) (r : Retired) (old : r.version_number ≤ l.version_number
 
       floor_is : nat_lt (floor_of risen_now) n ≡ list_any is_below (map (λ (x : Live). x.pin) l.live)
       floor_is =
-          (λ i. nat_lt (unwrap_or (least_number (are.live i)) (same_max pins.live.last l.version_number are.last i)) n)
-          ∙ floor_below l.version_number n old (pinned_of l.live) ∙ live_any l.live
+          (λ i. nat_lt (unwrap_or (least_number (are.live i)) (same_max pins.live.last l.epoch are.last i)) n)
+          ∙ floor_below l.epoch n old (pinned_of l.live) ∙ live_any l.live
 
   pub free_up_to : (pins : Pins) → ArePinsOf pins l
-      → not (is_held (pins_of l) r) ≡ nat_le r.version_number (bound_of l.version_number pins)
-  free_up_to pins are = ap not (held_below pins are) ∙ test (bound_of l.version_number pins) n
+      → not (is_held (pins_of l) r) ≡ nat_le r.epoch (bound_of l.epoch pins)
+  free_up_to pins are = ap not (held_below pins are) ∙ test (bound_of l.epoch pins) n
     where
       test : (a b : ℕ) → not (nat_lt a b) ≡ nat_le b a
       test a b = by (nat_lt a b) (nat_le b a) refl refl

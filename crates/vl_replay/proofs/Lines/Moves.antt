@@ -73,7 +73,7 @@ module _ (s : things.State) where
       → let r = relocate_ruling s.layout (history_in s.commits) pass batch in (a : MoveAnswer) → TellsMoves s (moved_by s name pass r a)
   moved_tells name pass batch is (move.Moves n) = record {
     job = leaves_so s.layout (history_in s.commits) (λ m. IsToldMoves s.layout.job m.job) (told_itself s.layout.job)
-        (λ moved. told_with (s.layout.version_number + 1) moved s.layout.job) pass batch;
+        (λ moved. told_with (s.layout.epoch + 1) moved s.layout.job) pass batch;
     jobs = jobs_beside s.things name (λ job made there. pass_no_job pass (Some batch) job made (sym is ∙ there)) pass None;
   }
   moved_tells name pass batch is (move.Halted file) = only_tells _

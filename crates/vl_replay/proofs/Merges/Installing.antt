@@ -63,7 +63,7 @@ use Rattle.vl_engine_model.specs.declared.live.Live.{Live}
 use Rattle.vl_manifest.specs.Switching.{WhileSwitching}
 use Rattle.vl_mem.specs.laws.CrashChance.{IsTornByPieces}
 use Rattle.vl_model.specs.History.{History, last_number}
-use Rattle.vl_model.specs.Limits.{max_version_number}
+use Rattle.vl_model.specs.Limits.{max_epoch}
 use Rattle.vl_model.specs.Numbers.{has}
 use Rattle.vl_model.specs.declared.entry.Entry.{Entry}
 use Rattle.vl_recover.specs.crash.Alike.{IsLeft}
@@ -376,7 +376,7 @@ module _ {D H R S W : Type 0} (g : Ghosts D) (w : Writers W) (bytes : H → Opti
 
   installs : InstallsOf l h r
   installs = install_installs l h j made
-      (pinned_up_to l.version_number (loose (lent_numbers l.job) ++ l.retired) l.live (job_pin l.job) (pass_pin l.pass)
+      (pinned_up_to l.epoch (loose (lent_numbers l.job) ++ l.retired) l.live (job_pin l.job) (pass_pin l.pass)
       stands.engine.tidy.files.stocked.pinned)
 
   pub there : thing_of s.store name ≡ Some (AJob j made)
@@ -799,11 +799,11 @@ module _ {D H R W : Type 0} (g : Ghosts D) (w : Writers W) (bytes : H → Option
       open_is = waits.is_open;
       unraced = unraced_as merging layout.job waits.open_job opens waits.is_open
           (says.unraced waits.open_job.job waits.has failed);
-      version = sym (install_version layout before.back.version_number stands.engine.fronts.version)
-          ∙ some_left before.back.version_number may.version;
+      version = sym (install_version layout before.back.epoch stands.engine.fronts.version)
+          ∙ some_left before.back.epoch may.version;
     }
       where
-        some_left : (v : ℕ) → v < max_version_number → nat_le max_version_number v ≡ false
+        some_left : (v : ℕ) → v < max_epoch → nat_le max_epoch v ≡ false
         some_left v few = grind (arith, nat_tests, few)
 
     pub did_install : DidInstall g w bytes before after old new merging' os s stands name (waiting_as its_name job) named waits result

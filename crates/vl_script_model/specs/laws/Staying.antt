@@ -14,7 +14,7 @@ use Rattle.vl_engine_model.specs.Rulings.Install.{InstallAnswer, install_checked
 use Rattle.vl_engine_model.specs.Rulings.Plan.{plan_of, plan_ruling, plan_unless}
 use Rattle.vl_model.specs.Conflicts.{Named}
 use Rattle.vl_model.specs.declared.entry.Entry.{Entry}
-use Rattle.vl_engine_model.specs.Ruling.{Exhausted, Halted, Idle, Ruling, StepAnswer, Stepped, has_no_number, has_no_version, leaving}
+use Rattle.vl_engine_model.specs.Ruling.{Exhausted, Halted, Idle, Ruling, StepAnswer, Stepped, has_no_number, has_no_epoch, leaving}
 use Rattle.vl_engine_model.specs.Rulings.Flush.{flush_of, flush_unless, flushed}
 use Rattle.vl_engine_model.specs.Rulings.Rotate.{rotate_of, rotate_unless, rotated}
 use Rattle.vl_engine_model.specs.Rulings.Keep as keep
@@ -74,7 +74,7 @@ module _ (l : Layout) (h : History) where
   by_frames : (fs : List LogFrame) → Stays l (rotate_of fs l h)
   by_frames [] = left Idle
   by_frames (f ∷ fs) = either (has_no_number l.next_log 1) _ _ (left (Exhausted counter.Log))
-      (either (has_no_version l) _ _ (left (Exhausted counter.Version)) (stepped l.active.number (rotated l) 3))
+      (either (has_no_epoch l) _ _ (left (Exhausted counter.Version)) (stepped l.active.number (rotated l) 3))
 
   rotate_stays : (halted : Option FileName) → Stays l (rotate_unless halted l h)
   rotate_stays (Some file) = left (Halted file)
@@ -83,7 +83,7 @@ module _ (l : Layout) (h : History) where
   by_oldest : (o : Option Segment) → Stays l (flush_of l h o)
   by_oldest None = left Idle
   by_oldest (Some log) = either (has_no_number l.next_table 1) _ _ (left (Exhausted counter.Table))
-      (either (has_no_version l) _ _ (left (Exhausted counter.Version)) (stepped l.next_table (flushed l log) 5))
+      (either (has_no_epoch l) _ _ (left (Exhausted counter.Version)) (stepped l.next_table (flushed l log) 5))
 
   flush_stays : (halted : Option FileName) → Stays l (flush_unless halted l h)
   flush_stays (Some file) = left (Halted file)
@@ -223,7 +223,7 @@ module _ (s : things.State) where
 
       race_by : (o : Option Named) → Ends (install_checked s.layout (history_in s.commits) job made o)
       race_by (Some named) undone = ended_stays made s.layout
-      race_by None undone = by (has_no_version s.layout) undone
+      race_by None undone = by (has_no_epoch s.layout) undone
 
       of : (halted : Option FileName) → Ends (install_unless halted s.layout (history_in s.commits) job made)
       of (Some file) undone = ended_stays made s.layout

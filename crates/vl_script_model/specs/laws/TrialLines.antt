@@ -5,7 +5,7 @@ use Rattle.std.specs.Prelude.{Option, nat_le}
 use Rattle.std.specs.List.{AllByRecursion, slice_get}
 use Rattle.std.proofs.lemmas.Bool.Decides.{nat_tests}
 use Rattle.vl_disk.specs.Faults.{after_calls}
-use Rattle.vl_engine_model.specs.Ruling.{Exhausted, Halted, Idle, Ruling, StepAnswer, Stepped, has_no_number, has_no_version, leaving}
+use Rattle.vl_engine_model.specs.Ruling.{Exhausted, Halted, Idle, Ruling, StepAnswer, Stepped, has_no_number, has_no_epoch, leaving}
 use Rattle.vl_engine_model.specs.Rulings.Flush.{flush_of, flush_ruling, flush_unless}
 use Rattle.vl_engine_model.specs.Rulings.Rotate.{rotate_of, rotate_ruling, rotate_unless}
 use Rattle.vl_engine_model.specs.Sources.{oldest}
@@ -157,7 +157,7 @@ module _ (l : Layout) (h : History) where
       of [] = idle_one
       of (f ∷ fs) =
           either_one (has_no_number l.next_log 1) (leaving (Exhausted counter.Log) h l) _ (used_one counter.Log)
-          (either_one (has_no_version l) (leaving (Exhausted counter.Version) h l) _ (used_one counter.Version) (λ number is. omega arith))
+          (either_one (has_no_epoch l) (leaving (Exhausted counter.Version) h l) _ (used_one counter.Version) (λ number is. omega arith))
 
       by : (o : Option FileName) → TakesOne (rotate_unless o l h)
       by (Some file) = halted_one file
@@ -170,7 +170,7 @@ module _ (l : Layout) (h : History) where
       of None = idle_one
       of (Some s) =
           either_one (has_no_number l.next_table 1) (leaving (Exhausted counter.Table) h l) _ (used_one counter.Table)
-          (either_one (has_no_version l) (leaving (Exhausted counter.Version) h l) _ (used_one counter.Version) (λ number is. omega arith))
+          (either_one (has_no_epoch l) (leaving (Exhausted counter.Version) h l) _ (used_one counter.Version) (λ number is. omega arith))
 
       by : (o : Option FileName) → TakesOne (flush_unless o l h)
       by (Some file) = halted_one file

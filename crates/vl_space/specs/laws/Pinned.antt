@@ -18,7 +18,7 @@ module _ (live : LiveTickets) (pins : Pins) (version : ℕ) (l : Layout) (is : P
   -- as many are pinned as live
   pub same_count : length pins.live.tickets ≡ length live.tickets
   same_count =
-      ap length is.pins_are.live ∙ length-map l.live (λ (x : Live). (x.ticket, x.pin.version_number))
+      ap length is.pins_are.live ∙ length-map l.live (λ (x : Live). (x.ticket, x.pin.epoch))
       ∙ sym (length-map l.live (λ (x : Live). (x.ticket, x.number))) ∙ ap length (sym is.live_are)
 
   abbrev pinned_at : ℕ → Pins
@@ -43,7 +43,7 @@ module _ (live : LiveTickets) (pins : Pins) (version : ℕ) (l : Layout) (is : P
   unpinned_so mid new ticket free same then_is =
       subst (λ (p : Pins). ArePinsOf p l)
       (sym (then_is ∙ ap (λ (p : Pins). record p { live = ended ticket p.live }) (same ∙ ap pinned_at is.version_is)
-      ∙ ap (λ (t : ℕ). record pins { live = ended t (begun (raised l.version_number pins.live)) }) free))
+      ∙ ap (λ (t : ℕ). record pins { live = ended t (begun (raised l.epoch pins.live)) }) free))
       (pins_begun_ended pins l is.pins_are is.rising)
 
 -- It is the same refusal that is handed on.

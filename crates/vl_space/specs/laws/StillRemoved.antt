@@ -28,14 +28,14 @@ use Rattle.vl_pins.specs.declared.in_use.InUse.{InUse}
 use Rattle.vl_pins.specs.declared.stock.Stock.{Stock}
 use Rattle.vl_seglog.specs.declared.sealed.SealedLog.{SealedLog}
 
--- The same sealed logs and tables, the same retired files, and no more files lent; the version number doesn't fall.
+-- The same sealed logs and tables, the same retired files, and no more files lent; the epoch doesn't fall.
 pub record IsAlike (l k : Layout) : Type 0 where
   pub flushed : k.flushed ≡ l.flushed
   pub frozen : k.frozen ≡ l.frozen
   pub levels : k.levels ≡ l.levels
   pub retired : k.retired ≡ l.retired
   pub active : k.active.number ≡ l.active.number
-  pub later : l.version_number ≤ k.version_number
+  pub later : l.epoch ≤ k.epoch
   pub lent : length (lent_numbers k.job) ≤ length (lent_numbers l.job)
   pub running : k.halted ≡ None → l.halted ≡ None
 
@@ -53,8 +53,8 @@ module _ (l k : Layout) (alike : IsAlike l k) where
     logs = uses.logs ∙ ap (λ (ss : List Segment). log_numbers (rising ss)) sealed_same;
   }
 
-  aged_on : (rs : List Retired) → AllByRecursion (λ (r : Retired). r.version_number ≤ l.version_number) rs
-      → AllByRecursion (λ (r : Retired). r.version_number ≤ k.version_number) rs
+  aged_on : (rs : List Retired) → AllByRecursion (λ (r : Retired). r.epoch ≤ l.epoch) rs
+      → AllByRecursion (λ (r : Retired). r.epoch ≤ k.epoch) rs
   aged_on [] all = tt
   aged_on (r ∷ rs) all = (let a = all.0 in let b = alike.later in omega (arith, a, b), aged_on rs all.1)
 
@@ -64,7 +64,7 @@ module _ (l k : Layout) (alike : IsAlike l k) where
       in_use = subst (λ (ss : List (SealedLog H)). UsesThoseOf ss old.in_use k) (sym logs)
           (uses_alike core.version.behind.logs.items old.in_use is.in_use);
       trash = is.trash ∙ sym alike.retired;
-      aged = subst (AllByRecursion (λ (r : Retired). r.version_number ≤ k.version_number)) (sym alike.retired)
+      aged = subst (AllByRecursion (λ (r : Retired). r.epoch ≤ k.epoch)) (sym alike.retired)
           (aged_on l.retired is.aged);
       room = let room = is.room in let few = alike.lent in omega (arith, room, few);
     })
@@ -78,12 +78,12 @@ module _ (l k : Layout) (alike : IsAlike l k) where
 
 -- What is pinned stays where a layout pins the same.
 pub pins_alike : (pins : Pins) (l k : Layout) → k.live ≡ l.live
-    → option_map (λ (j : OpenJob). j.pin.version_number) k.job ≡ option_map (λ (j : OpenJob). j.pin.version_number) l.job
-    → k.pass ≡ l.pass → l.version_number ≤ k.version_number → ArePinsOf pins l → ArePinsOf pins k
+    → option_map (λ (j : OpenJob). j.pin.epoch) k.job ≡ option_map (λ (j : OpenJob). j.pin.epoch) l.job
+    → k.pass ≡ l.pass → l.epoch ≤ k.epoch → ArePinsOf pins l → ArePinsOf pins k
 pins_alike pins l k live job pass later are = record {
   live = are.live ∙ ap pinned_of (sym live);
   merge = are.merge ∙ sym job;
-  pass = are.pass ∙ ap (λ (o : Option OpenPass). option_map (λ (p : OpenPass). p.pin.version_number) o) (sym pass);
+  pass = are.pass ∙ ap (λ (o : Option OpenPass). option_map (λ (p : OpenPass). p.pin.epoch) o) (sym pass);
   last = let a = are.last in omega (arith, a, later);
 }
 
@@ -131,7 +131,7 @@ removes_live core after old new l live logs stock pins is =
 
 -- What lives is pinned as the layout has it.
 pub pins_here : {H L : Type 0} (core : Core H) (h : History) (l : Layout) → Fronts core h l → (kept : Removing L)
-    → Removes core kept l → PinsLive core.front.oracle kept.pins core.back.version_number l
+    → Removes core kept l → PinsLive core.front.oracle kept.pins core.back.epoch l
 pins_here core h l is kept removes = record {
   live_are = is.front.live_are;
   rising = is.front.lived.rising;

@@ -15,7 +15,7 @@ use Rattle.vl_engine_model.specs.Garbage.{pointed_bytes, stat_of}
 use Rattle.vl_engine_model.specs.Jobs.{Made}
 use Rattle.vl_engine_model.specs.Levels.{in_front, is_among}
 use Rattle.vl_engine_model.specs.OpenJobs.{IsFitted, IsIdle, IsRoomy}
-use Rattle.vl_engine_model.specs.Ruling.{Ruling, StepAnswer, Stepped, has_no_number, has_no_version}
+use Rattle.vl_engine_model.specs.Ruling.{Ruling, StepAnswer, Stepped, has_no_number, has_no_epoch}
 use Rattle.vl_engine_model.specs.Rulings.Flush.{covered_by, flush_of, flush_ruling, flush_unless, flushed, flushed_table}
 use Rattle.vl_engine_model.specs.Rulings.Install.{InstallAnswer, Installed, install_checked, install_ruling, install_unless}
 use Rattle.vl_engine_model.specs.Rulings.Install.{installed, moved_since, put_in, race}
@@ -54,7 +54,7 @@ module _ (P : Layout → Type 0) (l : Layout) (h : History) where
     frames_leave [] = λ is. absurd cc
     frames_leave (f ∷ fs) =
         one_step n (has_no_number l.next_log 1) _ _ (λ is. absurd cc)
-        (one_step n (has_no_version l) _ _ (λ is. absurd cc) (λ is. goes))
+        (one_step n (has_no_epoch l) _ _ (λ is. absurd cc) (λ is. goes))
 
     unhalted_rotation : (o : Option FileName) → StepLeaves n (rotate_unless o l h)
     unhalted_rotation (Some name) = λ is. absurd cc
@@ -68,7 +68,7 @@ module _ (P : Layout → Type 0) (l : Layout) (h : History) where
     oldest_leaves None waits = λ is. absurd cc
     oldest_leaves (Some s) waits =
         one_step n (has_no_number l.next_table 1) _ _ (λ is. absurd cc)
-        (one_step n (has_no_version l) _ _ (λ is. absurd cc) (λ is. goes s waits))
+        (one_step n (has_no_epoch l) _ _ (λ is. absurd cc) (λ is. goes s waits))
 
     unhalted_flush : (o : Option FileName) → StepLeaves n (flush_unless o l h)
     unhalted_flush (Some name) = λ is. absurd cc
@@ -87,7 +87,7 @@ module _ (P : Layout → Type 0) (l : Layout) (h : History) where
   module _ (job : Job) (made : Made) (goes : P (installed job made l)) where
     raced_leaves : (o : Option Named) → InstallLeaves (install_checked l h job made o)
     raced_leaves (Some named) = λ is. absurd cc
-    raced_leaves None = one_install (has_no_version l) _ _ (λ is. absurd cc) (λ is. goes)
+    raced_leaves None = one_install (has_no_epoch l) _ _ (λ is. absurd cc) (λ is. goes)
 
     unhalted_install : (o : Option FileName) → InstallLeaves (install_unless o l h job made)
     unhalted_install (Some name) = λ is. absurd cc
@@ -163,7 +163,7 @@ module _ (old new : Tallied) (l : Layout) (old_is : IsTally old l) where
       levels = in_front (flushed_table l s) l.levels;
       covered = covered_by s.frames l.covered;
       next_table = l.next_table + 1;
-      version_number = l.version_number + 1;
+      epoch = l.epoch + 1;
     }
 
     pub tally_flushed : (s : Segment) → oldest l.frozen ≡ Some s → IsOfLayout live number (flushed l s) → IsTally new (flushed l s)

@@ -38,21 +38,21 @@ same_back before after others items = record {
   manifest = ap (λ (b : Back). b.manifest) others;
   state = ap (λ (b : Back). b.state) others;
   next_log = ap (λ (b : Back). b.next_log) others;
-  version_number = ap (λ (b : Back). b.version_number) others;
+  epoch = ap (λ (b : Back). b.epoch) others;
   waiting = items;
 }
 
 -- with the log that was active behind those that wait it is the next
 pub next_back : {H : Type 0} (before : Core H) (room after : Back) (covered : ℕ) → IsSameBack before.back room
     → after.manifest ≡ room.manifest → after.state ≡ room.state → after.next_log ≡ room.next_log + 1
-    → after.version_number ≡ room.version_number + 1
+    → after.epoch ≡ room.epoch + 1
     → after.waiting.items ≡ room.waiting.items ++ record { number = before.front.log.number; covered = covered } ∷ []
     → covered ≡ before.front.oracle.last → IsNextBack before after
-next_back before room after covered same manifest state next_log version_number waiting last = record {
+next_back before room after covered same manifest state next_log epoch waiting last = record {
   manifest = manifest ∙ same.manifest;
   state = state ∙ same.state;
   next_log = next_log ∙ ap (λ (n : ℕ). n + 1) same.next_log;
-  version_number = version_number ∙ ap (λ (n : ℕ). n + 1) same.version_number;
+  epoch = epoch ∙ ap (λ (n : ℕ). n + 1) same.epoch;
   waiting = waiting
       ∙ ap (λ (ws : List Waiting). ws ++ record { number = before.front.log.number; covered = covered } ∷ []) same.waiting
       ∙ ap (λ (n : ℕ). before.back.waiting.items ++ record { number = before.front.log.number; covered = n } ∷ []) last;

@@ -124,7 +124,7 @@ module _ {H : Type 0} (bytes : H → Option (List ℕ)) (before after : Core H) 
     room = same.log.room ∙ is.room;
     roomy = is.roomy;
     halted = ap (λ n. option_map file_of n) same.log.halted ∙ is.halted;
-    version = ap (λ (b : Back). b.version_number) back ∙ is.version;
+    version = ap (λ (b : Back). b.epoch) back ∙ is.version;
     keep = ap (λ (b : Back). b.state.keep) back ∙ is.keep;
     since = ap (λ (b : Back). b.state.since) back ∙ is.since;
   }

@@ -124,7 +124,7 @@ module _ {H : Type 0} (before : Core H) (h : History) (l : Layout) where
   pub fronts_undrawn : (name : Name) (after : Core H) → after ≡ record before { front = record before.front { halted = Some name } }
       → Fronts before h l → Fronts after h (halted_at (file_of name) l)
   fronts_undrawn name after core is = fronts_unflushed before after h l name (ap (λ (c : Core H). c.front) core)
-      (ap (λ (c : Core H). c.back.version_number) core) (as_many (ap (λ (c : Core H). c.back.state) core)) is
+      (ap (λ (c : Core H). c.back.epoch) core) (as_many (ap (λ (c : Core H). c.back.state) core)) is
 
   module _ (bytes : H → Option (List ℕ)) (is : StandsFor bytes before h l) where
     pub stands_drawn : (after : Core H) → after ≡ drawn_core before → StandsFor bytes after h (drawn l)

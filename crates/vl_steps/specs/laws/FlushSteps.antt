@@ -113,7 +113,7 @@ oldest_file (x ∷ y ∷ ss) s all is = oldest_file (y ∷ ss) s all.1 is
 module _ {H : Type 0} (before after : Core H) (h : History) (l : Layout) where
   -- behind a flush,
   pub fronts_flushed : (s : Segment) → after.front ≡ before.front
-      → after.back.version_number ≡ before.back.version_number + 1 → KeepsAsMany before.back.state after.back.state
+      → after.back.epoch ≡ before.back.epoch + 1 → KeepsAsMany before.back.state after.back.state
       → Fronts before h l → Fronts after h (flushed l s)
   fronts_flushed s front version same is = record {
     front = subst (λ (f : Front). IsFront f.oracle f.recent.named h (flushed l s)) (sym front) (record {
@@ -136,7 +136,7 @@ module _ {H : Type 0} (before after : Core H) (h : History) (l : Layout) where
 
   -- and where it failed
   pub fronts_unflushed : (name : Name) → after.front ≡ record before.front { halted = Some name }
-      → after.back.version_number ≡ before.back.version_number → KeepsAsMany before.back.state after.back.state
+      → after.back.epoch ≡ before.back.epoch → KeepsAsMany before.back.state after.back.state
       → Fronts before h l → Fronts after h (halted_at (file_of name) l)
   fronts_unflushed name front version same is = record {
     front = subst (λ (f : Front). IsFront f.oracle f.recent.named h (halted_at (file_of name) l)) (sym front) (record {

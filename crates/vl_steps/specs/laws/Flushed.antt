@@ -173,7 +173,7 @@ module _ {D H : Type 0} (g : Ghosts D) (bytes : H → Option (List ℕ)) (before
         decides_short (Fronts after) h l (flush_ruling l h) l (subst (λ (c : Core H). Fronts c h l) (sym did.0) is)
     fronts_by is has (Err (fails.Disk name)) did =
         decides_failed (Fronts after) h l (flush_ruling l h) l (file_of name) no_effects (runs_on before h l is none)
-        (fronts_unflushed before after h l name did.front did.version_number (as_many did.state) is)
+        (fronts_unflushed before after h l name did.front did.epoch (as_many did.state) is)
 
     pub stands_by : (state : DiskState) → g.told old ≡ Some state → StandsFor bytes before h l → HasNumbers before.back l
         → AreLogFiles l → (result : Result (Option ℕ) StepFail) → FlushesAs g bytes old new before after result
@@ -196,7 +196,7 @@ module _ {D H : Type 0} (g : Ghosts D) (bytes : H → Option (List ℕ)) (before
     stands_by state told is has files (Err (fails.Disk name)) did =
         decides_failed (StandsFor bytes after) h l (flush_ruling l h) l (file_of name) no_effects (runs_on before h l is.fronts none)
         (stands_unflushed bytes before after h l is name did.version
-        (fronts_unflushed before after h l name did.front did.version_number (as_many did.state) is.fronts))
+        (fronts_unflushed before after h l name did.front did.epoch (as_many did.state) is.fronts))
 
     pub carries_by : IsWatched g → Represents bytes before (g.told old) h l → (result : Result (Option ℕ) StepFail)
         → FlushesAs g bytes old new before after result
@@ -235,4 +235,4 @@ module _ {D H : Type 0} (g : Ghosts D) (bytes : H → Option (List ℕ)) (before
         on.ruled
         (carries_unflushed g watched bytes before after h l old new is running on.log on.first did.staged did.of did.writes name
         no_effects (stands_unflushed bytes before after h l is.stands name did.version
-        (fronts_unflushed before after h l name did.front did.version_number (as_many did.state) is.stands.fronts)))
+        (fronts_unflushed before after h l name did.front did.epoch (as_many did.state) is.stands.fronts)))

@@ -50,7 +50,7 @@ use Rattle.vl_engine_laws.specs.laws.InstallRulings.{GoesOn, install_exhausted, 
 use Rattle.vl_engine_laws.specs.laws.InstallRulings.{install_made_so, install_raced, install_version}
 use Rattle.vl_engine_model.specs.Decides.{Answered, Decides, NoMemory, no_effects}
 use Rattle.vl_engine_model.specs.Jobs.{AreLent, Made, job_ended}
-use Rattle.vl_engine_model.specs.Ruling.{Ruling, has_no_version, leaving}
+use Rattle.vl_engine_model.specs.Ruling.{Ruling, has_no_epoch, leaving}
 use Rattle.vl_engine_model.specs.Rulings.Install as ruling
 use Rattle.vl_engine_model.specs.Rulings.Install.{InstallAnswer, Installed, install_checked, install_lost, install_ruling}
 use Rattle.vl_engine_model.specs.Rulings.Install.{install_unless, moved_since, race}
@@ -62,7 +62,7 @@ use Rattle.vl_manifest.specs.Switching.{switched}
 use Rattle.vl_manifest.specs.declared.state.ManifestState.{ManifestState}
 use Rattle.vl_model.specs.Conflicts.{Named}
 use Rattle.vl_model.specs.History.{Extends, History}
-use Rattle.vl_model.specs.Limits.{max_version_number}
+use Rattle.vl_model.specs.Limits.{max_epoch}
 use Rattle.vl_model.specs.Numbers.{has}
 use Rattle.vl_model.specs.declared.counter.Counter.TheVariants as counters
 use Rattle.vl_model.specs.declared.counter.Counter.{Counter}
@@ -82,7 +82,7 @@ history_stays l h job made = unless l.halted
 
     checked : (named : Option Named) → (install_checked l h job made named).history ≡ h
     checked (Some named) = refl
-    checked None = either (has_no_version l)
+    checked None = either (has_no_epoch l)
 
     unless : (halted : Option FileName) → (install_unless halted l h job made).history ≡ h
     unless (Some name) = refl
@@ -173,14 +173,14 @@ module _ {D H R W : Type 0} (g : Ghosts D) (bytes : H → Option (List ℕ)) (w 
     running : l.halted ≡ None
     running = runs_on before h l is.stands.fronts none
 
-    -- no version number is left,
+    -- no epoch is left,
     ruled_used : (counter : Counter) → counter ≡ counters.Version
-        → nat_le max_version_number before.back.version_number ≡ true
+        → nat_le max_epoch before.back.epoch ≡ true
         → leaving (ruling.Exhausted counter) h (job_ended made l) ≡ rules
     ruled_used counter version used =
         ap (λ (c : Counter). leaving (ruling.Exhausted c) h (job_ended made l)) version
         ∙ install_exhausted l h o made running opened unraced
-        (sym (install_version l before.back.version_number is.stands.fronts.version) ∙ used)
+        (sym (install_version l before.back.epoch is.stands.fronts.version) ∙ used)
 
     -- or it goes on.
     pub goes_on : HasVersion before → GoesOn l o
@@ -188,7 +188,7 @@ module _ {D H R W : Type 0} (g : Ghosts D) (bytes : H → Option (List ℕ)) (w 
       running = running;
       open_is = opened;
       unraced = unraced;
-      version = sym (install_version l before.back.version_number is.stands.fronts.version) ∙ version;
+      version = sym (install_version l before.back.epoch is.stands.fronts.version) ∙ version;
     }
 
     module _ (new : D) (after : Core H) where
@@ -356,7 +356,7 @@ module _ {D H R W : Type 0} (g : Ghosts D) (bytes : H → Option (List ℕ)) (w 
   failed_by none (Err (install.Exhausted counter)) did failed = absurd failed
   failed_by none (Err (install.NoMemory back)) did failed = absurd failed
   failed_by none (Err (install.Disk at)) did failed =
-      let left : nat_le max_version_number before.back.version_number ≡ false = did.0 in
+      let left : nat_le max_epoch before.back.epoch ≡ false = did.0 in
       record { running = none; version = grind (arith, nat_tests, left) }
 
   -- and what was written by then.

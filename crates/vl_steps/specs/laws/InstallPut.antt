@@ -247,4 +247,4 @@ module _ {D H R W : Type 0} (g : Ghosts D) (bytes : H → Option (List ℕ)) (w 
   stands_lost name lent did =
       let over = (stands_abandoned bytes before h l o made opened lent None refl is).stands in
       stands_unflushed bytes before after h (job_ended made l) over name did.version
-      (fronts_unflushed before after h (job_ended made l) name did.front did.version_number (as_many did.state) over.fronts)
+      (fronts_unflushed before after h (job_ended made l) name did.front did.epoch (as_many did.state) over.fronts)

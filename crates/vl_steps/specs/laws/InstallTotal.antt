@@ -16,7 +16,7 @@ use Rattle.vl_engine_laws.specs.declared.open.OpenMerge.{OpenMerge}
 use Rattle.vl_engine_model.specs.Rulings.Install.{race}
 use Rattle.vl_engine_model.specs.declared.job.Job.{Job}
 use Rattle.vl_model.specs.Conflicts.{Named}
-use Rattle.vl_model.specs.Limits.{max_version_number}
+use Rattle.vl_model.specs.Limits.{max_epoch}
 use Rattle.vl_version.specs.declared.base.Base.{Base}
 
 module _ {D H R W : Type 0} (g : Ghosts D) (bytes : H → Option (List ℕ)) (w : Writers W) {s : _}
@@ -27,7 +27,7 @@ module _ {D H R W : Type 0} (g : Ghosts D) (bytes : H → Option (List ℕ)) (w 
   core_by none (Ok done) did = record {
     running = none;
     front = did.1.front;
-    version_number = did.1.back.version;
+    epoch = did.1.back.version;
     manifest = did.1.back.number;
     next_log = did.1.back.next_log;
     waiting = did.1.back.waiting;
@@ -35,13 +35,13 @@ module _ {D H R W : Type 0} (g : Ghosts D) (bytes : H → Option (List ℕ)) (w 
   core_by none (Err (install.Halted name)) did = absurd did
   core_by none (Err (install.Raced key number)) did = absurd did
   core_by none (Err (install.Exhausted counter)) did =
-      let used : nat_le max_version_number before.back.version_number ≡ true = did.used in
+      let used : nat_le max_epoch before.back.epoch ≡ true = did.used in
       record { running = none; counter_is = did.counter_is; used = grind (arith, nat_tests, used); same = did.core }
   core_by none (Err (install.NoMemory back)) did = did.1
   core_by none (Err (install.Disk name)) did = record {
     running = none;
     front = did.1.front;
-    version_number = did.1.version_number;
+    epoch = did.1.epoch;
     state = did.1.state;
     version = did.1.version;
   }

@@ -88,14 +88,14 @@ module _ {H : Type 0} (before after : Core H) (h : History) (l : Layout) (v : �
     room = ap (λ (f : Front). f.room) front ∙ is.room;
     roomy = is.roomy;
     halted = ap (λ (f : Front). option_map file_of f.halted) front ∙ is.halted;
-    version = back.version_number ∙ is.version;
+    version = back.epoch ∙ is.version;
     keep = ap (λ (s : ManifestState). s.keep) back.state;
     since = ap (λ (s : ManifestState). s.since) back.state ∙ since_is is;
   }
 
   -- where it failed
   pub fronts_unkept : (name : Name) → after.front ≡ record before.front { halted = Some name }
-      → after.back.version_number ≡ before.back.version_number → after.back.state ≡ before.back.state → Fronts before h l
+      → after.back.epoch ≡ before.back.epoch → after.back.state ≡ before.back.state → Fronts before h l
       → Fronts after h (halted_at (file_of name) l)
   fronts_unkept name front version state is = fronts_unflushed before after h l name front version (as_many state) is
 

@@ -324,7 +324,7 @@ module _ {D H : Type 0} (g : Ghosts D) (before after : Core H) (old new : D) (v 
         decides_short (Fronts after) h l (keep_ruling l h v) l (subst (λ (c : Core H). Fronts c h l) (sym did.0) is)
     fronts_by is (Err (fails.Disk name)) did =
         decides_failed (Fronts after) h l (keep_ruling l h v) l (file_of name) no_effects (runs_on before h l v is may.running)
-        (fronts_unkept before after h l v did.staged name did.front did.version_number did.state is)
+        (fronts_unkept before after h l v did.staged name did.front did.epoch did.state is)
 
     pub stands_by : StandsFor bytes before h l → (result : Result (Unit {0}) KeepFail) → KeepsAs g old new before after v result
         → Decides (StandsFor bytes after) h l (keep_ruling l h v) (as_before l l) (keep_outcome result)
@@ -345,7 +345,7 @@ module _ {D H : Type 0} (g : Ghosts D) (before after : Core H) (old new : D) (v 
         decides_failed (StandsFor bytes after) h l (keep_ruling l h v) l (file_of name) no_effects
         (runs_on before h l v is.fronts may.running)
         (stands_halted bytes before after h l is did.version name
-        (fronts_unkept before after h l v did.staged name did.front did.version_number did.state is.fronts))
+        (fronts_unkept before after h l v did.staged name did.front did.epoch did.state is.fronts))
 
     pub carries_by : IsWatched g → Represents bytes before (g.told old) h l → (result : Result (Unit {0}) KeepFail)
         → KeepsAs g old new before after v result
@@ -375,7 +375,7 @@ module _ {D H : Type 0} (g : Ghosts D) (before after : Core H) (old new : D) (v 
         (carries_unkept g watched bytes before after h l v old new is (runs_on before h l v fronts may.running) may.some may.few
         did.staged did.of did.writes name no_effects
         (stands_halted bytes before after h l is.stands did.version name
-        (fronts_unkept before after h l v did.staged name did.front did.version_number did.state fronts)))
+        (fronts_unkept before after h l v did.staged name did.front did.epoch did.state fronts)))
 
     pub fits_by : StandsFor bytes before h l → Fits (g.told old) before h l → (result : Result (Unit {0}) KeepFail)
         → KeepsAs g old new before after v result

@@ -189,7 +189,7 @@ module _ {D H R : Type 0} (g : Ghosts D) (bytes : H → Option (List ℕ)) (faul
       (stopped : (name : Name) → new.core ≡ record old.core { front = record old.core.front { halted = Some name } }
       → new.merging ≡ old.merging → S h (halted_at (file_of name) l))
       (moved_so : (moved : List Moved) → IsMoving l h p batch moved → HasMoved g old.disk new.disk old.core new.core moved
-      → NotesMoves old.merging new.merging (moves_at (old.core.back.version_number + 1) moved) → S h (relocated l moved)) where
+      → NotesMoves old.merging new.merging (moves_at (old.core.back.epoch + 1) moved) → S h (relocated l moved)) where
     left_by : (answer : MoveAnswer) → leaving answer h l ≡ ruling → LeavesAll old new
         → Decides S h l ruling otherwise (Answered answer) no_effects
     left_by answer is leaves = decides_leaving S h l ruling otherwise answer l is (kept (as_left leaves))
@@ -238,7 +238,7 @@ module _ {D H R : Type 0} (g : Ghosts D) (bytes : H → Option (List ℕ)) (faul
       })
       (λ moved may did notes. record {
         stands = stands_moved g bytes old.core new.core old.disk new.disk h l is.stands p batch moved may there did;
-        opens = opens_then (old.core.back.version_number + 1) (l.version_number + 1)
+        opens = opens_then (old.core.back.epoch + 1) (l.epoch + 1)
             (ap (λ (n : ℕ). n + 1) fronts.version) moved old.merging new.merging l.job is.opens notes;
       })
 

@@ -152,9 +152,9 @@ module _ {D H R : Type 0} (g : Ghosts D) (bytes : H → Option (List ℕ)) (faul
   back_by (Err (fails.Disk name)) did back is = absurd cc
   back_by (Err (fails.Damaged given name place)) did back is = let same : given ≡ back = cc in sym same ∙ did.0
 
-  -- What steps need stays but for the version number.
+  -- What steps need stays but for the epoch.
   pub steps_by : (result : Result ℕ MoveFail) → Did result
-      → new.core.back ≡ record old.core.back { version_number = moved_version result old.core.back.version_number }
+      → new.core.back ≡ record old.core.back { epoch = moved_version result old.core.back.epoch }
   steps_by (Ok zero) did = ap (λ (c : Core H). c.back) did.1.core
   steps_by (Ok (suc n)) did = did.moves.back
   steps_by (Err (fails.Halted name)) did = ap (λ (c : Core H). c.back) did.2.core
@@ -179,10 +179,10 @@ module _ {D H R : Type 0} (g : Ghosts D) (bytes : H → Option (List ℕ)) (faul
 
   -- What was moved is noted for the open merge.
   pub merging_by : (result : Result ℕ MoveFail) → Did result
-      → MoveNotes old.core.back.version_number old.merging new.merging result
+      → MoveNotes old.core.back.epoch old.merging new.merging result
   merging_by (Ok zero) did = did.1.merging
   merging_by (Ok (suc n)) did =
-      let number = old.core.back.version_number + 1 in
+      let number = old.core.back.epoch + 1 in
       record {
         keys = map (λ (m : Moved). m.key) did.moved;
         count_is = as_many_keys did.moved ∙ sym did.count_is;

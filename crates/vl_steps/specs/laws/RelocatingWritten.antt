@@ -24,7 +24,7 @@ use Rattle.vl_front.specs.declared.front.Front.{Front}
 use Rattle.vl_engine_model.specs.Relocation.{Candidate}
 use Rattle.vl_model.specs.Conflicts.{Named}
 use Rattle.vl_model.specs.Formats.{log_format}
-use Rattle.vl_model.specs.Limits.{max_version_number}
+use Rattle.vl_model.specs.Limits.{max_epoch}
 use Rattle.vl_model.specs.declared.log_frame.LogFrame.TheVariants.{Relocated}
 use Rattle.vl_model.specs.declared.log_frame.Moved.{Moved}
 use Rattle.vl_seglog.specs.Staging.{IsStaged}
@@ -84,9 +84,9 @@ notes_then (Some merge) None notes others same did = absurd did
 notes_then (Some merge) (Some next) notes others same did =
     (did.0, did.1 ∙ ap (λ (ns : List Named). ns ++ merge.moved.items) (same merge refl))
 
--- What the next calls ask of the disk is so behind the frame, under another version number.
+-- What the next calls ask of the disk is so behind the frame, under another epoch.
 pub fit_moved : {H : Type 0} (before after : Core H) (number : ℕ) → after.front.log.number ≡ before.front.log.number
-    → after.front.halted ≡ before.front.halted → after.back ≡ record before.back { version_number = number }
+    → after.front.halted ≡ before.front.halted → after.back ≡ record before.back { epoch = number }
     → (name : Name) (frame : List ℕ) (old new : Option DiskState) → ForSome old (IsFitFor before)
     → IsChangedBy (written name frame) old new → ForSome new (IsFitFor after)
 fit_moved {H} before after number log halted back name frame old new fit changed =
@@ -98,7 +98,7 @@ fit_moved {H} before after number log halted back name frame old new fit changed
     }) changed
   where
     numbered : Core H
-    numbered = record before { back = record before.back { version_number = number } }
+    numbered = record before { back = record before.back { epoch = number } }
 
 -- The files that are lent to the open merge can still be taken back, whatever is noted for it.
 pub lent_moved : {D : Type 0} (g : Ghosts D) (old new : D) (next : ℕ) (merging now : Option OpenMerge) (notes : List Named)
@@ -124,7 +124,7 @@ relocated_some g bytes faults_of old new segment batch (suc n) some did = did
 pub relocated_by : {D H R : Type 0} (g : Ghosts D) (bytes : H → Option (List ℕ)) (faults_of : R → ℕ) (old new : At D H R)
     (segment : ℕ) (batch : List Candidate) (core : Core H) → core ≡ old.core → (moved given : List Moved) → given ≡ moved
     → (count : ℕ) → HasFound g bytes faults_of old new segment batch moved → 1 ≤ length moved
-    → core.back.version_number < max_version_number → core.front.log.length + move_length moved ≤ core.front.room
+    → core.back.epoch < max_epoch → core.front.log.length + move_length moved ≤ core.front.room
     → WritesMove g old.disk new.disk core new.core old.merging new.merging given (Ok count)
     → RelocatesAs g bytes faults_of old new segment batch (Ok count)
 relocated_by {D} {H} g bytes faults_of old new segment batch core same moved given is count found some left room wrote =
@@ -134,7 +134,7 @@ relocated_by {D} {H} g bytes faults_of old new segment batch core same moved giv
         has = record {
           found = found;
           some = some;
-          left = subst (λ (c : Core H). c.back.version_number < max_version_number) same left;
+          left = subst (λ (c : Core H). c.back.epoch < max_epoch) same left;
         };
         room = subst (λ (c : Core H). c.front.log.length + move_length moved ≤ c.front.room) same room;
       };

@@ -47,7 +47,7 @@ use Rattle.vl_manifest.specs.declared.waiting.Waiting.{Waiting}
 use Rattle.vl_manifest.specs.declared.state.ManifestState.{ManifestState}
 use Rattle.vl_model.specs.Formats.{log_format}
 use Rattle.vl_model.specs.History.{History}
-use Rattle.vl_model.specs.Limits.{max_file_number, max_version_number}
+use Rattle.vl_model.specs.Limits.{max_file_number, max_epoch}
 use Rattle.vl_model.specs.declared.counter.Counter.TheVariants as counter
 use Rattle.vl_recover.specs.crash.Alike.{IsLeft}
 use Rattle.vl_recover.specs.crash.Held.{HoldsManifest}
@@ -67,7 +67,7 @@ pub record CanRotate (l : Layout) : Type 0 where
   pub running : l.halted ≡ None
   pub long : 16 < l.active.length
   pub left : l.next_log ≤ max_file_number
-  pub below : l.version_number < max_version_number
+  pub below : l.epoch < max_epoch
 
 pub ruled_made : (l : Layout) (h : History) → IsTrueLog l.active → CanRotate l → rotate_made l h ≡ rotate_ruling l h
 ruled_made l h true_log can = made_ruled l h true_log can.running can.long can.left can.below
@@ -92,7 +92,7 @@ module _ {H : Type 0} (before after : Core H) (h : History) (l : Layout) where
     room = ap (λ (f : Front). f.room) front ∙ is.room;
     roomy = is.roomy;
     halted = ap (λ (f : Front). option_map file_of f.halted) front ∙ is.halted;
-    version = back.version_number ∙ ap (λ (n : ℕ). n + 1) is.version;
+    version = back.epoch ∙ ap (λ (n : ℕ). n + 1) is.version;
     keep = ap (λ (s : ManifestState). s.keep) back.state ∙ is.keep;
     since = ap (λ (s : ManifestState). s.since) back.state ∙ is.since;
   }
@@ -112,7 +112,7 @@ module _ {H : Type 0} (before after : Core H) (h : History) (l : Layout) where
         room = so.room;
         roomy = so.roomy;
         halted = so.halted;
-        version = back.version_number ∙ is.version;
+        version = back.epoch ∙ is.version;
         keep = ap (λ (s : ManifestState). s.keep) back.state ∙ is.keep;
         since = ap (λ (s : ManifestState). s.since) back.state ∙ is.since;
       }
@@ -127,7 +127,7 @@ module _ {H : Type 0} (before after : Core H) (h : History) (l : Layout) where
     room = ap (λ (f : Front). f.room) same.front ∙ is.room;
     roomy = is.roomy;
     halted = ap (λ (f : Front). option_map file_of f.halted) same.front ∙ is.halted;
-    version = same.back.version_number ∙ is.version;
+    version = same.back.epoch ∙ is.version;
     keep = ap (λ (s : ManifestState). s.keep) same.back.state ∙ is.keep;
     since = ap (λ (s : ManifestState). s.since) same.back.state ∙ is.since;
   }
@@ -365,12 +365,12 @@ module _ {H : Type 0} (core : Core H) (h : History) (l : Layout) (is : Fronts co
         left_then : l.next_log ≤ max_file_number
         left_then = omega (arith, next, left)
 
-        pub ruled_version : IsTrueLog l.active → max_version_number ≤ core.back.version_number
+        pub ruled_version : IsTrueLog l.active → max_epoch ≤ core.back.epoch
             → leaving (Exhausted counter.Version) h l ≡ rotate_ruling l h
         ruled_version true_log past =
             version_used_up l h true_log running_so longer left_then (omega (arith, is.version, past))
 
-        pub can_rotate : core.back.version_number < max_version_number → CanRotate l
+        pub can_rotate : core.back.epoch < max_epoch → CanRotate l
         can_rotate below = record {
           running = running_so;
           long = longer;

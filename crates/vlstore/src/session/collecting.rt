@@ -132,7 +132,7 @@ fn move_now<D: Disk>(
     ensures undamaged { (h : History) (l : Layout) → StandsFor D.Held.bytes engine.old.core h l
         → Lasts D.Held.bytes pass.now.log l → AreThere D.Held.bytes pass.now.log batch → IsDamaged result → ⊥ }
     ensures back { (back : List Candidate) → batch_back result ≡ Some back → back ≡ batch }
-    ensures merging { MoveNotes engine.old.core.back.version_number engine.old.merging engine.new.merging result }
+    ensures merging { MoveNotes engine.old.core.back.epoch engine.old.merging engine.new.merging result }
 {
     match engine.reader() {
         Ok(mut reader) => engine.relocate(pass, batch, &mut reader.looks),

@@ -169,7 +169,7 @@ impl<D: Disk> Session<D> {
     /// Puts the tables of a merge of this session, which has made all of them, into the place of its inputs,
     /// and ends it. `NoMemory` hands it back, to be installed later or abandoned; all other answers end it.
     /// `Raced`: a record was relocated meanwhile whose deletion the merge drops; plan again. `Exhausted`: no
-    /// version number is left. `Disk { name }` halts the store, with all commits; `Halted { name }`: it is
+    /// epoch is left. `Disk { name }` halts the store, with all commits; `Halted { name }`: it is
     /// halted.
     pub fn install<R: Wait>(
         &mut self,

@@ -138,20 +138,20 @@ module _ {D H R W : Type 0} (g : Ghosts D) (watched : IsWatched g) (w : Writers 
   behind = state_by s (sweep_by s.store (sweep_ruling s.store.layout (history_of s)))
 
   abbrev pub bound : ℕ
-  bound = up_to None before.back.version_number kept.pins
+  bound = up_to None before.back.epoch kept.pins
 
   abbrev pub going : List (RetiredFile (Lent W k))
-  going = ready (up_to None before.back.version_number kept.pins) kept.stock.trash.items
+  going = ready (up_to None before.back.epoch kept.pins) kept.stock.trash.items
 
   -- What the engine did, by its answer.
   pub record DidSweep (merging : Option OpenMerge) (result : Result ℕ SweepFail) : Type 0 where
     pub carries : engine.Represents bytes before (g.told old) h l
-        → SweepCarries g bytes old new after h l None (up_to None before.back.version_number kept.pins) kept kept' result
-    pub files : KeepsAllBut (names_of (ready (up_to None before.back.version_number kept.pins) kept.stock.trash.items))
+        → SweepCarries g bytes old new after h l None (up_to None before.back.epoch kept.pins) kept kept' result
+    pub files : KeepsAllBut (names_of (ready (up_to None before.back.epoch kept.pins) kept.stock.trash.items))
         (g.told old) (g.told new)
     pub within : after.back.state.next_log ≤ after.back.next_log
     pub sound : HaltsByRead (told_sweep result) → ⊥
-    pub as_swept : SweepsAs g w (up_to None before.back.version_number kept.pins) old new before after kept kept' result
+    pub as_swept : SweepsAs g w (up_to None before.back.epoch kept.pins) old new before after kept kept' result
     pub there : before.front.halted ≡ None → IsThere g w old before merging kept.stock
     pub leaves : engine.Represents bytes before (g.told old) h l → SweepFailed result → (now : DiskState) → g.told new ≡ Some now
         → LeavesNumbers l.next_log l.next_table now
@@ -162,16 +162,16 @@ module _ {D H R W : Type 0} (g : Ghosts D) (watched : IsWatched g) (w : Writers 
   -- those that go are those that the ruling removes
   going_are : swept None s.store.layout ≡ map (λ (file : RetiredFile (Lent W k)). file_of file.name) going
   going_are = swept_are s.store.layout kept.pins kept.stock.trash.items removes.pins trash_is (removes.stock stands.running).aged
-      before.back.version_number stands.engine.fronts.version None
+      before.back.epoch stands.engine.fronts.version None
 
   ruled_calls : r.calls ≡ length going
   ruled_calls = ap (λ (o : Option _). (sweep_unless o None s.store.layout (history_of s)).calls) stands.running
       ∙ swept_count s.store.layout kept.pins kept.stock.trash.items removes.pins trash_is (removes.stock stands.running).aged
-      before.back.version_number stands.engine.fronts.version None
+      before.back.epoch stands.engine.fronts.version None
 
   -- where it failed it was at one of them
   pub sweep_named : (result : Result ℕ SweepFail) (file : FileName)
-      → SweepsAs g w (up_to None before.back.version_number kept.pins) old new before after kept kept' result
+      → SweepsAs g w (up_to None before.back.epoch kept.pins) old new before after kept kept' result
       → told_sweep result ≡ Err (why.Disk file) → is_in (file_of file) (swept None s.store.layout) ≡ true
   sweep_named (Ok count) file did is = absurd cc
   sweep_named (Err (unswept.Halted name)) file did is = absurd cc
@@ -186,7 +186,7 @@ module _ {D H R W : Type 0} (g : Ghosts D) (watched : IsWatched g) (w : Writers 
     represented = represents bytes (g.told old) before os s stands held.there.2.openable
 
     carried : Carries g bytes old new after h l r (sweep_otherwise None l (gone_before kept kept')) (sweep_outcome result)
-        (sweep_effects (up_to None before.back.version_number kept.pins) kept.stock.trash.items result)
+        (sweep_effects (up_to None before.back.epoch kept.pins) kept.stock.trash.items result)
     carried = did.carries represented
 
     log_near : l.next_log ≤ s.files + 1
@@ -217,7 +217,7 @@ module _ {D H R W : Type 0} (g : Ghosts D) (watched : IsWatched g) (w : Writers 
       where
         all_numbered : AllByRecursion (λ (n : FileName). file_number n ≤ s.files) (names_of going)
         all_numbered = ready_numbered l kept.stock.trash.items trash_is s.files log_near table_near
-            (up_to None before.back.version_number kept.pins) given
+            (up_to None before.back.epoch kept.pins) given
 
     -- It was answered by the engine, and so is the line.
     holds_answered : (a : SweepAnswer) → sweep_outcome result ≡ Answered a → HoldsState g IsStored behind new
@@ -242,9 +242,9 @@ module _ {D H R W : Type 0} (g : Ghosts D) (watched : IsWatched g) (w : Writers 
     -- ---- it failed
 
     module _ (name : FileName) (is : result ≡ Err (unswept.Disk name)) where
-      as_stopped : SweepsAs g w (up_to None before.back.version_number kept.pins) old new before after kept kept'
+      as_stopped : SweepsAs g w (up_to None before.back.epoch kept.pins) old new before after kept kept'
           (Err (unswept.Disk name))
-      as_stopped = subst (SweepsAs g w (up_to None before.back.version_number kept.pins) old new before after kept kept') is did.as_swept
+      as_stopped = subst (SweepsAs g w (up_to None before.back.epoch kept.pins) old new before after kept kept') is did.as_swept
 
       failed : SweepFailed result
       failed = subst SweepFailed (sym is) tt
@@ -254,7 +254,7 @@ module _ {D H R W : Type 0} (g : Ghosts D) (watched : IsWatched g) (w : Writers 
           stops_torn g w going old new name as_stopped.2
           (all_then (IsWaiting g w old before.back.state.next_table) (IsReady g w)
           (λ file waiting lent some. (waiting.named lent some, (waiting.left lent some).tells held.there.0 held.there.1)) going
-          (all_filtered (IsWaiting g w old before.back.state.next_table) (is_up_to (up_to None before.back.version_number kept.pins))
+          (all_filtered (IsWaiting g w old before.back.state.next_table) (is_up_to (up_to None before.back.epoch kept.pins))
           kept.stock.trash.items
           (recursion_from_All (IsWaiting g w old before.back.state.next_table) kept.stock.trash.items (did.there as_stopped.0).waiting)))
           held.there.0 held.there.1 held.there.2.holds.durable now told

@@ -11,7 +11,7 @@ use Rattle.vl_engine_model.specs.Jobs.{Made}
 use Rattle.vl_engine_model.specs.Levels.{due_from, first_into}
 use Rattle.vl_engine_model.specs.Merging.{outputs}
 use Rattle.vl_engine_model.specs.Relocation.{Candidate, Pass, next_batch}
-use Rattle.vl_engine_model.specs.Ruling.{Ruling, has_no_number, has_no_version}
+use Rattle.vl_engine_model.specs.Ruling.{Ruling, has_no_number, has_no_epoch}
 use Rattle.vl_engine_model.specs.Rulings.Drain.{drain_of, drain_unless}
 use Rattle.vl_engine_model.specs.Rulings.Fresh as fresh
 use Rattle.vl_engine_model.specs.Rulings.Fresh.{FreshAnswer, fresh_ruling, fresh_unless}
@@ -163,7 +163,7 @@ either_pass l false x y p q = q
 module _ (l : Layout) (h : History) (job : Job) (made : Made) where
   checked_pass : (raced : Option Named) → (install_checked l h job made raced).layout.pass ≡ l.pass
   checked_pass (Some named) = refl
-  checked_pass None = either_pass l (has_no_version l) _ _ refl refl
+  checked_pass None = either_pass l (has_no_epoch l) _ _ refl refl
 
   install_pass : (halted : Option FileName) → (install_unless halted l h job made).layout.pass ≡ l.pass
   install_pass (Some file) = refl

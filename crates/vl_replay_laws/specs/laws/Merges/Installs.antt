@@ -5,7 +5,7 @@ use Rattle.std.specs.Prelude.{Option, None, Some}
 use Rattle.vl_engine_laws.specs.Represents.{IsLive}
 use Rattle.vl_engine_model.specs.Jobs.{Made, job_ended, loose}
 use Rattle.vl_engine_model.specs.Levels.{at_level, in_key_order, is_among, is_before, replaced, without}
-use Rattle.vl_engine_model.specs.Ruling.{Ruling, has_no_version, is_idle, leaving, retired_at}
+use Rattle.vl_engine_model.specs.Ruling.{Ruling, has_no_epoch, is_idle, leaving, retired_at}
 use Rattle.vl_engine_model.specs.Rulings.Sweep.{is_held}
 use Rattle.vl_engine_model.specs.Rulings.Install as rulings
 use Rattle.vl_engine_model.specs.Rulings.Install.{InstallAnswer, install_checked, install_ruling, install_unless, installed}
@@ -170,7 +170,7 @@ pub record InstallsOf (l : Layout) (h : History) (r : Ruling InstallAnswer) : Ty
   pub next_log : r.layout.next_log ≡ l.next_log
   pub next_table : r.layout.next_table ≡ l.next_table
 
-module _ (l : Layout) (h : History) (job : Job) (made : Made) (early : ArePinnedUpTo l.version_number l.live) where
+module _ (l : Layout) (h : History) (job : Job) (made : Made) (early : ArePinnedUpTo l.epoch l.live) where
   ended_installs : (a : InstallAnswer) → (l.halted ≡ None → IsNoHalt a) → InstallsOf l h (leaving a h (job_ended made l))
   ended_installs a goes = record {
     history = refl;
@@ -194,13 +194,13 @@ module _ (l : Layout) (h : History) (job : Job) (made : Made) (early : ArePinned
   logs = map log_of (rising (filter (is_idle switching) switching.flushed))
 
   abbrev new_retired : List Retired
-  new_retired = map (retired_at switching.version_number) (map table_of dropped ++ logs)
+  new_retired = map (retired_at switching.epoch) (map table_of dropped ++ logs)
 
   installed_bare : (ticket number : ℕ) → IsLive l ticket number → ReadsNoTable ticket (installed job made l) → ReadsNoTable ticket l
   installed_bare ticket number lives none = (
     replaced_none job.target job.inputs made.tables l.levels none.0
-        (dropped_none (pins_at ticket l.live) switching.version_number
-        (λ file. held_then ticket number l.version_number file l.live early lives) dropped logs
+        (dropped_none (pins_at ticket l.live) switching.epoch
+        (λ file. held_then ticket number l.epoch file l.live early lives) dropped logs
         (retired_none (is_held_table (pins_at ticket l.live)) switching.retired new_retired none.1)),
     none_before (is_held_table (pins_at ticket l.live)) l.retired (loose made.leavings)
         (none_before (is_held_table (pins_at ticket l.live)) switching.retired new_retired none.1),
@@ -226,7 +226,7 @@ module _ (l : Layout) (h : History) (job : Job) (made : Made) (early : ArePinned
 
   by_race : (o : Option Named) → InstallsOf l h (install_checked l h job made o)
   by_race (Some named) = ended_installs (rulings.Raced named.0 named.1) (λ running. tt)
-  by_race None = by_version (has_no_version l)
+  by_race None = by_version (has_no_epoch l)
 
   pub install_installs : InstallsOf l h (install_ruling l h job made)
   install_installs = of l.halted refl

@@ -7,7 +7,7 @@ use Rattle.std.specs.FinMap.{find, put}
 use Rattle.std.specs.Ordering.{eq_by_cmp}
 use Rattle.vl_engine_model.specs.AtAnswer.{Beginning, beginning_of}
 use Rattle.vl_engine_model.specs.Jobs.{Made}
-use Rattle.vl_engine_model.specs.Ruling.{Ruling, StepAnswer, has_no_number, has_no_version, leaving}
+use Rattle.vl_engine_model.specs.Ruling.{Ruling, StepAnswer, has_no_number, has_no_epoch, leaving}
 use Rattle.vl_engine_model.specs.Rulings.Begin as begin
 use Rattle.vl_engine_model.specs.Rulings.Begin.{BeginAnswer, begin_ruling, begun}
 use Rattle.vl_engine_model.specs.Rulings.Commit as commit
@@ -367,7 +367,7 @@ module _ (s : things.State) where
       of : (frames : List LogFrame) → Opens (rotate_of frames l h)
       of [] = (refl, refl)
       of (f ∷ fs) = either_opens (has_no_number l.next_log 1) _ _ (refl, refl)
-          (either_opens (has_no_version l) _ _ (refl, refl) (refl, refl))
+          (either_opens (has_no_epoch l) _ _ (refl, refl) (refl, refl))
 
   flush_opens : (o : Option FileName) → Opens (flush_unless o l h)
   flush_opens (Some file) = (refl, refl)
@@ -376,7 +376,7 @@ module _ (s : things.State) where
       of : (o : Option Segment) → Opens (flush_of l h o)
       of None = (refl, refl)
       of (Some log) = either_opens (has_no_number l.next_table 1) _ _ (refl, refl)
-          (either_opens (has_no_version l) _ _ (refl, refl) (refl, refl))
+          (either_opens (has_no_epoch l) _ _ (refl, refl) (refl, refl))
 
   step_keeps_merges : (r : Ruling StepAnswer) → Opens r → KeepsMerges s (step_by s r)
   step_keeps_merges r opens = record { job = opens.0; jobs = same_jobs s.things s.things refl }

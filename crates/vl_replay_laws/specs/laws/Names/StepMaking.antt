@@ -18,7 +18,7 @@ use Rattle.vl_engine_laws.specs.declared.kept.Core.{Core}
 use Rattle.vl_engine_model.specs.Decides.{Decides, Effects, Otherwise}
 use Rattle.vl_engine_model.specs.Levels.{in_front}
 use Rattle.vl_engine_model.specs.Ruling as rulings
-use Rattle.vl_engine_model.specs.Ruling.{Ruling, StepAnswer, has_no_number, has_no_version, leaving}
+use Rattle.vl_engine_model.specs.Ruling.{Ruling, StepAnswer, has_no_number, has_no_epoch, leaving}
 use Rattle.vl_engine_model.specs.Rulings.Flush.{flush_of, flush_ruling, flush_unless, flushed}
 use Rattle.vl_engine_model.specs.Rulings.Rotate.{rotate_of, rotate_ruling, rotate_unless, rotated}
 use Rattle.vl_engine_model.specs.Sources.{oldest, tables}
@@ -30,7 +30,7 @@ use Rattle.vl_engine_model.specs.declared.segment.Segment.{Segment}
 use Rattle.vl_engine_model.specs.declared.table.Table.{Table}
 use Rattle.vl_manifest.specs.declared.waiting.Waiting.{Waiting}
 use Rattle.vl_model.specs.History.{History}
-use Rattle.vl_model.specs.Limits.{max_file_number, max_version_number}
+use Rattle.vl_model.specs.Limits.{max_file_number, max_epoch}
 use Rattle.vl_model.specs.declared.counter.Counter.TheVariants as counter
 use Rattle.vl_model.specs.declared.log_frame.LogFrame.{LogFrame}
 use Rattle.vl_script_model.specs.Halts.{HaltsByDisk, HaltsByRead}
@@ -120,10 +120,10 @@ rotate_leaves l h = of l.halted refl
     by_version false = made_rotated l h
 
     by_number : (b : Bool) → LeavesOf l h (cond b (leaving (rulings.Exhausted counter.Log) h l)
-        (cond (has_no_version l) (leaving (rulings.Exhausted counter.Version) h l)
+        (cond (has_no_epoch l) (leaving (rulings.Exhausted counter.Version) h l)
         (record { answer = rulings.Stepped l.active.number; history = h; layout = rotated l; calls = 3; gone = [] })))
     by_number true = leaving_leaves l h (rulings.Exhausted counter.Log) tt (λ files. refl)
-    by_number false = by_version (has_no_version l)
+    by_number false = by_version (has_no_epoch l)
 
     by_frames : (fs : List LogFrame) → LeavesOf l h (rotate_of fs l h)
     by_frames [] = leaving_leaves l h rulings.Idle tt (λ files. refl)
@@ -175,10 +175,10 @@ flush_leaves l h = of l.halted refl
     by_version s false = made_flushed l h s
 
     by_number : (s : Segment) (b : Bool) → LeavesOf l h (cond b (leaving (rulings.Exhausted counter.Table) h l)
-        (cond (has_no_version l) (leaving (rulings.Exhausted counter.Version) h l)
+        (cond (has_no_epoch l) (leaving (rulings.Exhausted counter.Version) h l)
         (record { answer = rulings.Stepped l.next_table; history = h; layout = flushed l s; calls = 5; gone = [] })))
     by_number s true = leaving_leaves l h (rulings.Exhausted counter.Table) tt (λ files. refl)
-    by_number s false = by_version s (has_no_version l)
+    by_number s false = by_version s (has_no_epoch l)
 
     by_first : (o : Option Segment) → LeavesOf l h (flush_of l h o)
     by_first None = leaving_leaves l h rulings.Idle tt (λ files. refl)
@@ -262,14 +262,14 @@ may_go back may = by back.waiting.items may.waits
     left : nat_lt max_file_number back.state.next_table ≡ false
     left = let fits = may.table in grind (arith, nat_tests, fits)
 
-    below : nat_le max_version_number back.version_number ≡ false
+    below : nat_le max_epoch back.epoch ≡ false
     below = let fits = may.version in grind (arith, nat_tests, fits)
 
     by : (ws : List Waiting) → 1 ≤ length ws → deciding.flush_of ws back ≡ decisions.Go
     by [] some = absurd (omega (arith, some))
     by (w ∷ ws) some =
         ap (λ (b : Bool). cond b (decisions.Exhausted counter.Table)
-        (cond (nat_le max_version_number back.version_number) (decisions.Exhausted counter.Version) decisions.Go)) left
+        (cond (nat_le max_epoch back.epoch) (decisions.Exhausted counter.Version) decisions.Go)) left
         ∙ ap (λ (b : Bool). cond b (decisions.Exhausted counter.Version) decisions.Go) below
 
 -- ---- where the disk failed

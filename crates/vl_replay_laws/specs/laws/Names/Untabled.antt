@@ -110,7 +110,7 @@ module _ (ticket : ℕ) where
           (filter (λ (z : Live). z.ticket == ticket) us))) r ≡ true
           → is_held (map (λ (z : Live). z.pin) (cond b (a ∷ filter (λ (z : Live). z.ticket == ticket) vs)
           (filter (λ (z : Live). z.ticket == ticket) vs))) r ≡ true
-      behind true a us vs so held = or_so (nat_lt a.pin.version_number r.version_number) held
+      behind true a us vs so held = or_so (nat_lt a.pin.epoch r.epoch) held
         where
           or_so : (t : Bool) → (t || is_held (pins_at ticket us) r) ≡ true → (t || is_held (pins_at ticket vs) r) ≡ true
           or_so true held = refl
@@ -120,7 +120,7 @@ module _ (ticket : ℕ) where
       in_front : (b : Bool) (a : Live) (us : List Live) → is_held (pins_at ticket us) r ≡ true
           → is_held (map (λ (z : Live). z.pin) (cond b (a ∷ filter (λ (z : Live). z.ticket == ticket) us)
           (filter (λ (z : Live). z.ticket == ticket) us))) r ≡ true
-      in_front true a us held = or_true (nat_lt a.pin.version_number r.version_number) held
+      in_front true a us held = or_true (nat_lt a.pin.epoch r.epoch) held
         where
           or_true : (t : Bool) → is_held (pins_at ticket us) r ≡ true → (t || is_held (pins_at ticket us) r) ≡ true
           or_true true held = refl
@@ -190,9 +190,9 @@ reads_same l m live same retired ticket none = (
 
 -- ---- what is dropped
 
--- what lives was pinned at this version number at most
+-- what lives was pinned at this epoch at most
 abbrev pub ArePinnedUpTo : ℕ → List Live → Type 0
-ArePinnedUpTo version live = AllByRecursion (λ (x : Live). x.pin.version_number ≤ version) live
+ArePinnedUpTo version live = AllByRecursion (λ (x : Live). x.pin.epoch ≤ version) live
 
 -- A file that a step drops stays for all that lives.
 pub held_then : (ticket number version : ℕ) (file : FileName) (xs : List Live) → ArePinnedUpTo version xs
@@ -200,7 +200,7 @@ pub held_then : (ticket number version : ℕ) (file : FileName) (xs : List Live)
 held_then ticket number version file [] early found = absurd cc
 held_then ticket number version file (x ∷ xs) early found = by (x.ticket == ticket) refl (held_then ticket number version file xs early.1)
   where
-    before : nat_lt x.pin.version_number (version + 1) ≡ true
+    before : nat_lt x.pin.epoch (version + 1) ≡ true
     before = let least = early.0 in grind (arith, nat_tests, least)
 
     untied : (x.ticket == ticket) ≡ false → eq_by_cmp nat_cmp ticket x.ticket ≡ false
@@ -244,8 +244,8 @@ covers_all ticket (x ∷ xs) job pass r held = by (x.ticket == ticket) held (cov
     by : (b : Bool) → is_held (map (λ (y : Live). y.pin) (cond b (x ∷ filter (λ (y : Live). y.ticket == ticket) xs)
         (filter (λ (y : Live). y.ticket == ticket) xs))) r ≡ true → Rest
         → is_held (map (λ (y : Live). y.pin) (x ∷ xs) ++ job ++ pass) r ≡ true
-    by true held later = or_so (nat_lt x.pin.version_number r.version_number) held later
-    by false held later = or_true (nat_lt x.pin.version_number r.version_number) (later held)
+    by true held later = or_so (nat_lt x.pin.epoch r.epoch) held later
+    by false held later = or_true (nat_lt x.pin.epoch r.epoch) (later held)
 
 -- What a sweep leaves has each table that a reader may read: no file that it removes stays for one.
 pub reads_swept : (l : Layout) → AreOnce (files_of l.retired)

@@ -17,7 +17,7 @@ use Rattle.vl_space.specs.declared.kept.Collecting.{Collecting}
 use Rattle.vl_engine_laws.specs.declared.open.OpenMerge.{OpenMerge}
 use Rattle.vl_engine_model.specs.Decides.{Answered, Decides, Effects, Otherwise, Outcome}
 use Rattle.vl_engine_model.specs.Relocation.{Candidate, Pass, moved_of}
-use Rattle.vl_engine_model.specs.Ruling.{Ruling, has_no_version, leaving}
+use Rattle.vl_engine_model.specs.Ruling.{Ruling, has_no_epoch, leaving}
 use Rattle.vl_engine_model.specs.Rulings.Relocate as move
 use Rattle.vl_engine_model.specs.Rulings.Relocate.{MoveAnswer, relocate_of, relocate_ruling, relocate_unless, relocated}
 use Rattle.vl_engine_model.specs.Sources.{sources, tables}
@@ -69,7 +69,7 @@ module _ (l : Layout) (h : History) where
 
     of : (moved : List Moved) → P (relocate_of l h moved).layout
     of [] = stays
-    of (m ∷ ms) = by_fit (m ∷ ms) (has_no_version l)
+    of (m ∷ ms) = by_fit (m ∷ ms) (has_no_epoch l)
         (nat_le (l.active.length + frame_length l.active.format (Relocated (m ∷ ms))) l.room)
 
     unless : (halted : Option FileName) (p : Pass) (batch : List Candidate) → P (relocate_unless halted l h p batch).layout
@@ -100,7 +100,7 @@ module _ (l : Layout) (h : History) where
 
   refused_of : (moved : List Moved) → LeavesAll (relocate_of l h moved)
   refused_of [] = λ refused. absurd refused
-  refused_of (m ∷ ms) = refused_fit (m ∷ ms) (has_no_version l)
+  refused_of (m ∷ ms) = refused_fit (m ∷ ms) (has_no_epoch l)
       (nat_le (l.active.length + frame_length l.active.format (Relocated (m ∷ ms))) l.room)
 
   refused_unless : (halted : Option FileName) (p : Pass) (batch : List Candidate) → LeavesAll (relocate_unless halted l h p batch)
@@ -130,7 +130,7 @@ module _ (l : Layout) (h : History) where
 
   goes_of : (moved : List Moved) → IsNoHalt (relocate_of l h moved).answer
   goes_of [] = tt
-  goes_of (m ∷ ms) = goes_fit (m ∷ ms) (has_no_version l)
+  goes_of (m ∷ ms) = goes_fit (m ∷ ms) (has_no_epoch l)
       (nat_le (l.active.length + frame_length l.active.format (Relocated (m ∷ ms))) l.room)
 
   pub goes_on : (p : Pass) (batch : List Candidate) → l.halted ≡ None → IsNoHalt (relocate_ruling l h p batch).answer

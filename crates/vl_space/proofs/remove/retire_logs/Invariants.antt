@@ -6,7 +6,7 @@ use Rattle.vl_space.proofs.remove.retire_logs.Given as goal
 
 abbrev pub invariant-loop-log : goal.invariant-loop-log
 invariant-loop-log g l = record {
-  looks : (kept : Kept _) → Has l.fn.stock kept → Looks l.version (is_idle_log l.head l.live) l.at l.stock kept;
+  looks : (kept : Kept _) → Has l.fn.stock kept → Looks l.epoch (is_idle_log l.head l.live) l.at l.stock kept;
   room : (n : ℕ) → HasRoom l.fn.stock 0 0 n → HasRoom l.stock 0 0 n;
 }
 

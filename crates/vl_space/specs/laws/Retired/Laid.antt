@@ -61,7 +61,7 @@ pub record Uses {L : Type 0} (kept : Kept L) (l : Layout) : Type 0 where
 
 -- so that a stock which has them is the layout's, with what waits
 pub is_stock : {H L : Type 0} (core : Core H) (stock : Stock L) (x : Layout) (kept : Kept L) → Has stock kept → Uses kept x
-    → all_retired kept.trash ≡ x.retired → AllByRecursion (λ (r : Retired). r.version_number ≤ x.version_number) x.retired
+    → all_retired kept.trash ≡ x.retired → AllByRecursion (λ (r : Retired). r.epoch ≤ x.epoch) x.retired
     → deque_len stock.trash + length (lent_numbers x.job) ≤ deque_capacity stock.trash → IsStockOf core stock x
 is_stock {L = L} core stock x kept has uses trash aged room =
     let now = subst (λ (k : Kept L). Uses k x) has.kept_are uses in
@@ -233,25 +233,25 @@ module _ (l : Layout) (dropped : List laid.Table) (falling : IsFalling (l.active
 
   -- So it is with what is kept.
   module _ {L : Type 0} (kept : Kept L) (logs : kept.logs ≡ log_numbers (rising (sealed l))) where
-    pub switch_logs : (retiring l.version_number (is_idle_log number live) kept).logs
+    pub switch_logs : (retiring l.epoch (is_idle_log number live) kept).logs
         ≡ log_numbers (rising (sealed (switched dropped l)))
     switch_logs =
-        retiring_logs l.version_number (is_idle_log number live) kept
+        retiring_logs l.epoch (is_idle_log number live) kept
         ∙ ap (filter (λ (n : ℕ). not (is_idle_log number live n))) logs ∙ sym logs_behind
 
-    pub switch_tables : (retiring l.version_number (is_idle_log number live) kept).tables ≡ kept.tables
-    switch_tables = retiring_tables l.version_number (is_idle_log number live) kept
+    pub switch_tables : (retiring l.epoch (is_idle_log number live) kept).tables ≡ kept.tables
+    switch_tables = retiring_tables l.epoch (is_idle_log number live) kept
 
-    pub switch_waits : (retiring l.version_number (is_idle_log number live) kept).trash
-        ≡ kept.trash ++ gone_logs l.version_number (log_numbers (rising (filter (is_idle l) l.flushed)))
+    pub switch_waits : (retiring l.epoch (is_idle_log number live) kept).trash
+        ≡ kept.trash ++ gone_logs l.epoch (log_numbers (rising (filter (is_idle l) l.flushed)))
     switch_waits =
-        retiring_wait l.version_number (is_idle_log number live) kept
+        retiring_wait l.epoch (is_idle_log number live) kept
         (subst AreDistinct (sym logs) (rising_distinct (sealed l)))
-        ∙ ap (λ ns. kept.trash ++ gone_logs l.version_number ns) (ap (filter (is_idle_log number live)) logs ∙ idle_behind)
+        ∙ ap (λ ns. kept.trash ++ gone_logs l.epoch ns) (ap (filter (is_idle_log number live)) logs ∙ idle_behind)
 
-    pub switch_retired : all_retired (gone_logs {L = L} l.version_number (log_numbers (rising (filter (is_idle l) l.flushed))))
-        ≡ map (retired_at l.version_number) (map log_of (rising (filter (is_idle l) l.flushed)))
-    switch_retired = retired_logs L l.version_number (rising (filter (is_idle l) l.flushed))
+    pub switch_retired : all_retired (gone_logs {L = L} l.epoch (log_numbers (rising (filter (is_idle l) l.flushed))))
+        ≡ map (retired_at l.epoch) (map log_of (rising (filter (is_idle l) l.flushed)))
+    switch_retired = retired_logs L l.epoch (rising (filter (is_idle l) l.flushed))
 
 -- ---- lists
 
@@ -259,16 +259,16 @@ pub all_more : {X : Type 0} (P : X → Type 0) (xs ys : List X) → AllByRecursi
 all_more P [] ys a b = b
 all_more P (x ∷ xs) ys a b = (a.0, all_more P xs ys a.1 b)
 
--- those that retire now are retired at the version number
+-- those that retire now are retired at the epoch
 pub just_retired : (version : ℕ) (fs : List FileName)
-    → AllByRecursion (λ (r : Retired). r.version_number ≤ version) (map (retired_at version) fs)
+    → AllByRecursion (λ (r : Retired). r.epoch ≤ version) (map (retired_at version) fs)
 just_retired version [] = tt
 just_retired version (f ∷ fs) = (omega arith, just_retired version fs)
 
-pub aged_more : (m n : ℕ) → m ≤ n → (rs : List Retired) → AllByRecursion (λ (r : Retired). r.version_number ≤ m) rs
-    → AllByRecursion (λ (r : Retired). r.version_number ≤ n) rs
+pub aged_more : (m n : ℕ) → m ≤ n → (rs : List Retired) → AllByRecursion (λ (r : Retired). r.epoch ≤ m) rs
+    → AllByRecursion (λ (r : Retired). r.epoch ≤ n) rs
 aged_more m n less rs all =
-    all_weaker (λ (r : Retired). r.version_number ≤ m) (λ (r : Retired). r.version_number ≤ n) (λ r is. omega (arith, less, is)) rs all
+    all_weaker (λ (r : Retired). r.epoch ≤ m) (λ (r : Retired). r.epoch ≤ n) (λ r is. omega (arith, less, is)) rs all
 
 -- a table in front of level 0
 pub front_tables : (P : laid.Table → Type 0) (t : laid.Table) (ls : List (List laid.Table)) → P t

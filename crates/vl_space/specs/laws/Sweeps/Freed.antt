@@ -108,8 +108,8 @@ module _ (p : Retired → Bool) where
 -- ---- a layout's
 
 module _ {L : Type 0} (l : Layout) (pins : Pins) (trash : List (RetiredFile L)) (are : ArePinsOf pins l)
-    (trash_is : all_retired trash ≡ l.retired) (aged : AllByRecursion (λ (r : Retired). r.version_number ≤ l.version_number) l.retired)
-    (version : ℕ) (version_is : version ≡ l.version_number) (least : Option ℕ) where
+    (trash_is : all_retired trash ≡ l.retired) (aged : AllByRecursion (λ (r : Retired). r.epoch ≤ l.epoch) l.retired)
+    (version : ℕ) (version_is : version ≡ l.epoch) (least : Option ℕ) where
   abbrev pub bound : ℕ
   bound = up_to least version pins
 
@@ -117,7 +117,7 @@ module _ {L : Type 0} (l : Layout) (pins : Pins) (trash : List (RetiredFile L)) 
   goes r = not (is_held (pins_of l) r) && is_retired_up_to least r
 
   abbrev is_ready : Retired → Bool
-  is_ready r = nat_le r.version_number (up_to least version pins)
+  is_ready r = nat_le r.epoch (up_to least version pins)
 
   and_true : (b : Bool) → (b && true) ≡ b
   and_true true = refl
@@ -134,18 +134,18 @@ module _ {L : Type 0} (l : Layout) (pins : Pins) (trash : List (RetiredFile L)) 
       by true false true p q r = absurd (grind (arith, nat_tests, p, q, r))
       by false y true p q r = absurd (grind (arith, nat_tests, p, q, r))
 
-  agrees : (r : Retired) → r.version_number ≤ l.version_number → goes r ≡ is_ready r
+  agrees : (r : Retired) → r.epoch ≤ l.epoch → goes r ≡ is_ready r
   agrees r old = by least
     where
-      free : not (is_held (pins_of l) r) ≡ nat_le r.version_number (bound_of version pins)
-      free = free_up_to l r old pins are ∙ ap (λ (v : ℕ). nat_le r.version_number (bound_of v pins)) (sym version_is)
+      free : not (is_held (pins_of l) r) ≡ nat_le r.epoch (bound_of version pins)
+      free = free_up_to l r old pins are ∙ ap (λ (v : ℕ). nat_le r.epoch (bound_of v pins)) (sym version_is)
 
-      by : (o : Option ℕ) → (not (is_held (pins_of l) r) && is_retired_up_to o r) ≡ nat_le r.version_number (up_to o version pins)
+      by : (o : Option ℕ) → (not (is_held (pins_of l) r) && is_retired_up_to o r) ≡ nat_le r.epoch (up_to o version pins)
       by None = and_true (not (is_held (pins_of l) r)) ∙ free
-      by (Some n) = ap (λ (b : Bool). b && nat_le r.version_number n) free ∙ least_of r.version_number n (bound_of version pins)
+      by (Some n) = ap (λ (b : Bool). b && nat_le r.epoch n) free ∙ least_of r.epoch n (bound_of version pins)
 
   agree : filter (λ r. not (is_held (pins_of l) r) && is_retired_up_to least r) l.retired ≡ filter is_ready l.retired
-  agree = filter_alike goes is_ready l.retired (all_then (λ (r : Retired). r.version_number ≤ l.version_number)
+  agree = filter_alike goes is_ready l.retired (all_then (λ (r : Retired). r.epoch ≤ l.epoch)
       (λ (r : Retired). goes r ≡ is_ready r) agrees l.retired aged)
 
   -- the files that are ready, as the layout has them

@@ -21,7 +21,7 @@ returns-in_err-view-clause-removes g c h l is removes =
 
 pub returns-in_err-view-clause-pins : goal.returns-in_err-view-clause-pins
 returns-in_err-view-clause-pins g c =
-    refused_pins c.args.self.now.core.back.version_number c.args.self.now.removing.pins c.view.new.self.removing.pins
+    refused_pins c.args.self.now.core.back.epoch c.args.self.now.removing.pins c.view.new.self.removing.pins
     c.from_residual.result c.in_err-view.field-0.0 c.from_residual.ensures.1 c.in_err-view.ensures.pins
 
 pub returns-clause-decides : goal.returns-clause-decides

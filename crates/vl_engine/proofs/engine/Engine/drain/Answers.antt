@@ -36,5 +36,5 @@ returns-in-Ok-clause-removes g c h l is removes =
 
 pub returns-in-Ok-clause-stock : goal.returns-in-Ok-clause-stock
 returns-in-Ok-clause-stock g c =
-    stock_planned c.args.self.now.core.back.version_number c.args.self.now.removing c.begin_chosen.new.self.removing
+    stock_planned c.args.self.now.core.back.epoch c.args.self.now.removing c.begin_chosen.new.self.removing
     c.begin_chosen.result c.begin_chosen.ensures.removing

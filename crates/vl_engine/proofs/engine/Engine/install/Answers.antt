@@ -121,10 +121,10 @@ pub returns-in-Ok-Some-clause-stands : goal.returns-in-Ok-Some-clause-stands
 returns-in-Ok-Some-clause-stands g c state h l o told is opened files whole lent =
     stands_ended g.D.Watched g.D.Held.HeldFile.bytes g.D.Writer.Writer c.args.job c.args.self.now.disk c.args.self.now.core
     c.args.self.now.merging h l o is opened whole lent
-    (ruling.Raced c.in-Ok-Some.key c.in-Ok-Some.version_number)
+    (ruling.Raced c.in-Ok-Some.key c.in-Ok-Some.epoch)
     (ruled_raced g.D.Watched g.D.Held.HeldFile.bytes g.D.Writer.Writer c.args.job c.args.self.now.disk c.args.self.now.core
     c.args.self.now.merging h l o is opened whole lent
-    c.in_default.is (c.in-Ok-Some.key, c.in-Ok-Some.version_number)
+    c.in_default.is (c.in-Ok-Some.key, c.in-Ok-Some.epoch)
     (raced_so g.D.Watched g.D.Held.HeldFile.bytes g.D.Writer.Writer c.args.job c.args.self.now.disk c.args.self.now.core
     c.args.self.now.merging h l o is opened whole lent
     c.requires c.in-Ok-Some.field-0 c.in-Ok-Some.ensures.raced ∙ c.in-Ok-Some.field-0-is)) None refl
@@ -133,10 +133,10 @@ pub returns-in-Ok-Some-clause-carries : goal.returns-in-Ok-Some-clause-carries
 returns-in-Ok-Some-clause-carries g c h l o represents is opened whole lent =
     carries_ended g.D.Watched g.D.Held.HeldFile.bytes g.D.Writer.Writer c.args.job c.args.self.now.disk c.args.self.now.core
     c.args.self.now.merging h l o is opened whole lent
-    (ruling.Raced c.in-Ok-Some.key c.in-Ok-Some.version_number)
+    (ruling.Raced c.in-Ok-Some.key c.in-Ok-Some.epoch)
     (ruled_raced g.D.Watched g.D.Held.HeldFile.bytes g.D.Writer.Writer c.args.job c.args.self.now.disk c.args.self.now.core
     c.args.self.now.merging h l o is opened whole lent
-    c.in_default.is (c.in-Ok-Some.key, c.in-Ok-Some.version_number)
+    c.in_default.is (c.in-Ok-Some.key, c.in-Ok-Some.epoch)
     (raced_so g.D.Watched g.D.Held.HeldFile.bytes g.D.Writer.Writer c.args.job c.args.self.now.disk c.args.self.now.core
     c.args.self.now.merging h l o is opened whole lent
     c.requires c.in-Ok-Some.field-0 c.in-Ok-Some.ensures.raced ∙ c.in-Ok-Some.field-0-is))
@@ -146,10 +146,10 @@ pub returns-in-Ok-Some-clause-fits : goal.returns-in-Ok-Some-clause-fits
 returns-in-Ok-Some-clause-fits g c h l o is opened whole lent fits =
     fits_ended g.D.Watched g.D.Held.HeldFile.bytes g.D.Writer.Writer c.args.job c.args.self.now.disk c.args.self.now.core
     c.args.self.now.merging h l o is opened whole lent
-    (ruling.Raced c.in-Ok-Some.key c.in-Ok-Some.version_number)
+    (ruling.Raced c.in-Ok-Some.key c.in-Ok-Some.epoch)
     (ruled_raced g.D.Watched g.D.Held.HeldFile.bytes g.D.Writer.Writer c.args.job c.args.self.now.disk c.args.self.now.core
     c.args.self.now.merging h l o is opened whole lent
-    c.in_default.is (c.in-Ok-Some.key, c.in-Ok-Some.version_number)
+    c.in_default.is (c.in-Ok-Some.key, c.in-Ok-Some.epoch)
     (raced_so g.D.Watched g.D.Held.HeldFile.bytes g.D.Writer.Writer c.args.job c.args.self.now.disk c.args.self.now.core
     c.args.self.now.merging h l o is opened whole lent
     c.requires c.in-Ok-Some.field-0 c.in-Ok-Some.ensures.raced ∙ c.in-Ok-Some.field-0-is)) fits
@@ -294,7 +294,7 @@ pub returns-in-Err-clause-handed : goal.returns-in-Err-clause-handed
 returns-in-Err-clause-handed g c =
     (refl, refl)
 
--- nothing stands against it but that a version number may be wanting
+-- nothing stands against it but that an epoch may be wanting
 
 pub returns-in-Ok-None-clause-stands : goal.returns-in-Ok-None-clause-stands
 returns-in-Ok-None-clause-stands g c state h l o told is opened files whole lent =
@@ -418,7 +418,7 @@ returns-in-Some-clause-collects g c state h l o told is opened files whole lent 
 pub returns-in-Ok-Some-clause-collects : goal.returns-in-Ok-Some-clause-collects
 returns-in-Ok-Some-clause-collects g c state h l o told is opened files whole lent has =
     install_err g.row.D-Reader.Denot g.row.D-Writer.Denot g.D.Writer.Writer c.args.self.now.core c.args.self.now.collecting _ h l o.job
-    (made_of c.args.job o.job) no_effects has (fails.Raced c.in-Ok-Some.key c.in-Ok-Some.version_number)
+    (made_of c.args.job o.job) no_effects has (fails.Raced c.in-Ok-Some.key c.in-Ok-Some.epoch)
     (returns-in-Ok-Some-clause-stands g c state h l o told is opened files whole lent)
 
 pub returns-in-Err-clause-collects : goal.returns-in-Err-clause-collects

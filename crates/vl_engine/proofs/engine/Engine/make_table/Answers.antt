@@ -90,7 +90,7 @@ invariant_of-self-in-Ok-write_and_switch g c =
           there_by g.D.Watched g.D.Writer.Writer new _ c.args.self.now.merging c.switch.new.self.stock _ (numbers_left stock.trash.items)
           (c.switch.ensures.switched (kept_in room.in_use stock) (has_some stock room.in_use room.is_some))
           (keeps_switch g.D.Watched g.D.Writer.Writer new c.apply_flush.new.self.state.next_table core.front.log.number
-          (numbers_left stock.trash.items) c.apply_flush.new.self.version_number []
+          (numbers_left stock.trash.items) c.apply_flush.new.self.epoch []
           (is_idle_log c.head_of-head.result c.in-Ok-live_with.live) (with_tables (number ∷ []) (kept_in room.in_use stock))
           (keeps_made g.D.Watched g.D.Writer.Writer old new core.back.state.next_table c.apply_flush.new.self.state.next_table
           core.front.log.number number (kept_in room.in_use stock) (λ none. wrote.untold (quiet ∙ none))
@@ -189,7 +189,7 @@ returns-in-Err-clause-as_flushed g c =
       stops = stops_by g.D.Watched core ready.staged c.args.self.now.disk c.ready_flush.new.disk c.write_and_switch.new.disk _
           c.deref-2.ensures.value c.in-Ok.ensures.no_change c.in-Err.name c.in-Err.ensures.at;
       front = refl;
-      version_number = refl;
+      epoch = refl;
       state = refl;
       version = refl;
     }
@@ -308,7 +308,7 @@ returns-in-Err-clause-retires g c =
 pub returns-in-Ok-write_and_switch-clause-retires : goal.returns-in-Ok-write_and_switch-clause-retires
 returns-in-Ok-write_and_switch-clause-retires g c =
     switches_stock c.args.self.now.core _ (c.args.self.now.core.back.state.next_table ∷ []) [] c.head_of-head.result
-    c.apply_flush.new.self.version_number _ c.lent_count.result c.in-Ok-live_with.live c.switch-in-Ok-write_and_switch.new.self.tally
+    c.apply_flush.new.self.epoch _ c.lent_count.result c.in-Ok-live_with.live c.switch-in-Ok-write_and_switch.new.self.tally
     c.args.self.now.removing.stock c.make_room.new.self.stock c.switch.new.self.stock c.apply_flush.ensures.version
     c.head_of-head.ensures (c.switch-in-Ok-write_and_switch.ensures.live c.in-Ok-live_with.ensures.readied.made)
     c.lent_count.ensures c.in-Ok-make_room.ensures.readied c.switch.ensures.switched c.switch.ensures.room

@@ -298,7 +298,7 @@ returns-in_default-clause-removes g c h l is stands fits has removes =
     c.args.self.now.removing c.plan.new.self.removing h l c.plan.ensures.disk c.plan.ensures.core
     (subst (λ (o : Option _). OpensMerge {E = NoMemory} c.args.self.now.merging c.plan.new.self.merging (Ok o)) c.in_default.is
     c.in_ok-job.ensures.merging) c.plan.ensures.collecting
-    (subst (λ (o : Option _). PinsMerge {E = NoMemory} c.args.self.now.core.back.version_number c.args.self.now.removing
+    (subst (λ (o : Option _). PinsMerge {E = NoMemory} c.args.self.now.core.back.epoch c.args.self.now.removing
     c.plan.new.self.removing (Ok o)) c.in_default.is c.in_ok-job.ensures.removing) is stands fits has removes
 
 pub returns-in-Err-clause-removes : goal.returns-in-Err-clause-removes

@@ -18,6 +18,6 @@ returns-in-Ok-write_moves-clause-as_moved g c =
       well = c.in-Ok.ensures.steady;
     })
     some
-    (omega (arith, c.if-self-ge-MAX_VERSION_NUMBER.false))
+    (omega (arith, c.if-self-ge-MAX_EPOCH.false))
     (omega (arith, fits, frame_is))
     c.in-Ok-write_moves.ensures.as_written

@@ -59,7 +59,7 @@ invariant_of-result g c = record {
           manifest = c.in-Ok-recover.parts.manifest;
           state = c.in-Ok-recover.parts.state;
           next_log = c.max-next_log.result;
-          version_number = 0;
+          epoch = 0;
           waiting = c.in-Ok-recover.parts.waiting;
         };
       })
@@ -72,7 +72,7 @@ invariant_of-result g c = record {
         state = refl;
         next_log = c.max-next_log.ensures ∙ ap (max c.in-Ok-recover.parts.state.next_log) c.saturating_add.ensures;
         manifest = refl;
-        version_number = refl;
+        epoch = refl;
         waiting = refl;
         active = c.new.ensures.active;
         frozen = c.new.ensures.frozen;
@@ -87,7 +87,7 @@ invariant_of-result g c = record {
           manifest = c.in-Ok-recover.parts.manifest;
           state = c.in-Ok-recover.parts.state;
           next_log = c.max-next_log.result;
-          version_number = 0;
+          epoch = 0;
           waiting = c.in-Ok-recover.parts.waiting;
         };
       })
@@ -100,7 +100,7 @@ invariant_of-result g c = record {
         state = refl;
         next_log = c.max-next_log.ensures ∙ ap (max c.in-Ok-recover.parts.state.next_log) c.saturating_add.ensures;
         manifest = refl;
-        version_number = refl;
+        epoch = refl;
         waiting = refl;
         active = c.new.ensures.active;
         frozen = c.new.ensures.frozen;
@@ -117,7 +117,7 @@ invariant_of-result g c = record {
           manifest = c.in-Ok-recover.parts.manifest;
           state = c.in-Ok-recover.parts.state;
           next_log = c.max-next_log.result;
-          version_number = 0;
+          epoch = 0;
           waiting = c.in-Ok-recover.parts.waiting;
         };
       }) c.new-4.result c.in-Ok-recover.ensures.untold c.in-Ok-recover.ensures.repaired
@@ -131,7 +131,7 @@ invariant_of-result g c = record {
           manifest = c.in-Ok-recover.parts.manifest;
           state = c.in-Ok-recover.parts.state;
           next_log = c.max-next_log.result;
-          version_number = 0;
+          epoch = 0;
           waiting = c.in-Ok-recover.parts.waiting;
         };
       })
@@ -144,7 +144,7 @@ invariant_of-result g c = record {
         state = refl;
         next_log = c.max-next_log.ensures ∙ ap (max c.in-Ok-recover.parts.state.next_log) c.saturating_add.ensures;
         manifest = refl;
-        version_number = refl;
+        epoch = refl;
         waiting = refl;
         active = c.new.ensures.active;
         frozen = c.new.ensures.frozen;
@@ -170,7 +170,7 @@ returns-clause-core g c state read found told is_read =
         manifest = c.in-Ok-recover.parts.manifest;
         state = c.in-Ok-recover.parts.state;
         next_log = c.max-next_log.result;
-        version_number = 0;
+        epoch = 0;
         waiting = c.in-Ok-recover.parts.waiting;
       };
     })
@@ -183,7 +183,7 @@ returns-clause-core g c state read found told is_read =
       state = refl;
       next_log = c.max-next_log.ensures ∙ ap (max c.in-Ok-recover.parts.state.next_log) c.saturating_add.ensures;
       manifest = refl;
-      version_number = refl;
+      epoch = refl;
       waiting = refl;
       active = c.new.ensures.active;
       frozen = c.new.ensures.frozen;
@@ -203,7 +203,7 @@ returns-clause-stands g c state read found h told is_read shown =
         manifest = c.in-Ok-recover.parts.manifest;
         state = c.in-Ok-recover.parts.state;
         next_log = c.max-next_log.result;
-        version_number = 0;
+        epoch = 0;
         waiting = c.in-Ok-recover.parts.waiting;
       };
     })
@@ -216,7 +216,7 @@ returns-clause-stands g c state read found h told is_read shown =
       state = refl;
       next_log = c.max-next_log.ensures ∙ ap (max c.in-Ok-recover.parts.state.next_log) c.saturating_add.ensures;
       manifest = refl;
-      version_number = refl;
+      epoch = refl;
       waiting = refl;
       active = c.new.ensures.active;
       frozen = c.new.ensures.frozen;
@@ -237,7 +237,7 @@ returns-clause-back g c state read found told is_read =
         manifest = c.in-Ok-recover.parts.manifest;
         state = c.in-Ok-recover.parts.state;
         next_log = c.max-next_log.result;
-        version_number = 0;
+        epoch = 0;
         waiting = c.in-Ok-recover.parts.waiting;
       };
     })
@@ -250,7 +250,7 @@ returns-clause-back g c state read found told is_read =
       state = refl;
       next_log = c.max-next_log.ensures ∙ ap (max c.in-Ok-recover.parts.state.next_log) c.saturating_add.ensures;
       manifest = refl;
-      version_number = refl;
+      epoch = refl;
       waiting = refl;
       active = c.new.ensures.active;
       frozen = c.new.ensures.frozen;
@@ -271,7 +271,7 @@ returns-clause-represents g c state read found h told may is_read shown =
         manifest = c.in-Ok-recover.parts.manifest;
         state = c.in-Ok-recover.parts.state;
         next_log = c.max-next_log.result;
-        version_number = 0;
+        epoch = 0;
         waiting = c.in-Ok-recover.parts.waiting;
       };
     })
@@ -284,7 +284,7 @@ returns-clause-represents g c state read found h told may is_read shown =
       state = refl;
       next_log = c.max-next_log.ensures ∙ ap (max c.in-Ok-recover.parts.state.next_log) c.saturating_add.ensures;
       manifest = refl;
-      version_number = refl;
+      epoch = refl;
       waiting = refl;
       active = c.new.ensures.active;
       frozen = c.new.ensures.frozen;

@@ -169,7 +169,7 @@ returns-in-Some-best-clause-removes g c h l is has removes =
     (c.head_of.ensures ∙ head_is_laid g.D.Held.HeldFile.bytes c.args.self.now.core h l is)) in
     let core = c.args.self.now.core in
     let after = c.begin_pass.new.self in
-    let version = core.back.version_number in
+    let version = core.back.epoch in
     decides_begun l h c.args.percent (sym c.is_unfair.ensures ∙ c.if-is_unfair.false)
     (sym c.in_default.is ∙ has.passing) g.D.Held.HeldFile.bytes core is c.in-Some-best.number b
     (λ _ (x : Layout). Removes after.core after.removing x) c.begin_pass.result
@@ -181,5 +181,5 @@ returns-in-Some-best-clause-removes g c h l is has removes =
 
 pub returns-in-Some-best-clause-stock : goal.returns-in-Some-best-clause-stock
 returns-in-Some-best-clause-stock g c =
-    stock_picked c.args.self.now.core.back.version_number c.args.self.now.removing c.begin_pass.new.self.removing
+    stock_picked c.args.self.now.core.back.epoch c.args.self.now.removing c.begin_pass.new.self.removing
     c.begin_pass.result c.begin_pass.ensures.removing

@@ -139,9 +139,9 @@ invariant_of-self-in-Ok-write_install g c =
           (subst (λ ls. LeavesFiles (map left_of c.new.result.items ++ ls.items) c.make_room.new.self.stock c.leave_files.new.stock)
           c.into_parts-made.ensures.leavings c.leave_files.ensures) made_room) c.in-Ok-make_room.ensures.readied.room.in_use
           (c.leave_files.ensures.in_use ∙ c.in-Ok-make_room.ensures.readied.room.is_some)
-          c.apply_install.new.self.version_number c.deref-in-Ok-write_install-3.result.now
+          c.apply_install.new.self.epoch c.deref-in-Ok-write_install-3.result.now
           (is_idle_log c.head_of-head.result c.args.live)
-          (subst (λ ns. BecomesBy (switching c.apply_install.new.self.version_number ns c.deref-in-Ok-write_install-3.result.now
+          (subst (λ ns. BecomesBy (switching c.apply_install.new.self.epoch ns c.deref-in-Ok-write_install-3.result.now
           (is_idle_log c.head_of-head.result c.args.live)) c.leave_files.new.stock c.switch.new.self.stock)
           (c.deref-in-Ok-write_install-2.ensures.value ∙ c.in-Ok-made_numbers.ensures ∙ ap (map (λ t. t.number)) c.made.ensures)
           c.switch.ensures.switched)
@@ -228,7 +228,7 @@ returns-in-Err-clause-as_installed g c =
           ready.staged.edits.frame.items c.ready_install.new.disk c.write_install.new.disk ready.levels c.write_install.new.levels
           c.in-Err.name) c.into_parts-made.ensures.made wrote.stops;
       front = refl;
-      version_number = refl;
+      epoch = refl;
       state = refl;
       version = refl;
     }
@@ -270,7 +270,7 @@ returns-in-Ok-write_install-clause-retires g c = (
       (subst (λ ls. LeavesFiles (map left_of c.new.result.items ++ ls.items) c.make_room.new.self.stock c.leave_files.new.stock)
       c.into_parts-made.ensures.leavings c.leave_files.ensures)
       c.args.self.now.core _ c.deref-in-Ok-write_install-2.result.now c.deref-in-Ok-write_install-3.result.now c.head_of-head.result
-      c.apply_install.new.self.version_number c.len.result c.lent_count-lent.result c.args.live c.switch-in-Ok-write_install.new.self.tally
+      c.apply_install.new.self.epoch c.len.result c.lent_count-lent.result c.args.live c.switch-in-Ok-write_install.new.self.tally
       c.args.self.now.removing.stock c.switch.new.self.stock
       (c.deref-in-Ok-write_install-2.ensures.value ∙ c.in-Ok-made_numbers.ensures ∙ ap (map (λ t. t.number)) c.made.ensures)
       (c.deref-in-Ok-write_install-3.ensures.value ∙ c.in-Ok-input_numbers.ensures

@@ -79,12 +79,12 @@ pub returns-clause-as_swept : goal.returns-clause-as_swept
 returns-clause-as_swept g c = let was = c.loop-file.invariant in let took = c.in_default-take_up_to.ensures in (
   was.running,
   was.core,
-  subst (λ (b : ℕ). HasSwept g.D.Watched g.D.Writer.Writer b c.args.self.now.core.back.version_number
+  subst (λ (b : ℕ). HasSwept g.D.Watched g.D.Writer.Writer b c.args.self.now.core.back.epoch
       c.args.self.now.disk c.loop-file.self.disk c.args.self.now.removing
       (record { pins = c.loop-file.self.removing.pins; stock = c.take_up_to.new.self }) c.loop-file.count) was.bound
       (has_swept g.D.Watched g.D.Writer.Writer c.bound-bound.result c.args.self.now.removing.stock.trash.items
       c.loop-file.self.removing.stock.trash.items c.args.self.now.disk c.loop-file.self.disk c.loop-file.count was.gone
-      c.args.self.now.core.back.version_number c.args.self.now.removing
+      c.args.self.now.core.back.epoch c.args.self.now.removing
       (record { pins = c.loop-file.self.removing.pins; stock = c.take_up_to.new.self }) refl took.taken (took.in_use ∙ was.in_use)
       (took.capacity ∙ was.capacity) was.pins),
 )

@@ -15,8 +15,8 @@ invariant-loop-file g l = record {
   collecting : l.self.collecting ≡ l.fn.self.collecting;
   in_use : l.self.removing.stock.in_use ≡ l.fn.self.removing.stock.in_use;
   capacity : deque_capacity l.self.removing.stock.trash ≡ deque_capacity l.fn.self.removing.stock.trash;
-  pins : PinsStay l.fn.self.core.back.version_number l.fn.self.removing.pins l.self.removing.pins;
-  bound : l.bound ≡ up_to l.fn.least l.fn.self.core.back.version_number l.fn.self.removing.pins;
+  pins : PinsStay l.fn.self.core.back.epoch l.fn.self.removing.pins l.self.removing.pins;
+  bound : l.bound ≡ up_to l.fn.least l.fn.self.core.back.epoch l.fn.self.removing.pins;
   cause : HasCause (g.D.Watched.faults l.fn.self.disk) (g.D.Watched.faults l.self.disk) ⊥;
   fits : l.count + deque_len l.self.removing.stock.trash ≡ deque_len l.fn.self.removing.stock.trash;
 }

@@ -92,7 +92,7 @@ returns-in-Ok-switch-clause-as_kept g c =
         state = ap (λ (n : ℕ). record core.back.state { keep = c.args.versions; since = n }) c.next_since-since.ensures;
         next_log = refl;
         waiting = refl;
-        version_number = refl;
+        epoch = refl;
       };
       version = refl;
     }
@@ -145,6 +145,6 @@ returns-clause-as_kept g c =
           c.in-Ok.ensures.no_change _ failed;
       front = refl;
       state = refl;
-      version_number = refl;
+      epoch = refl;
       version = refl;
     }

@@ -73,7 +73,7 @@ invariant_of-self-2 g c =
     let before = c.args.self.now in
     let next = before.core.back.state.next_table in
     record {
-      ready = fit_moved before.core _ (before.core.back.version_number + 1) c.append_durably.ensures.number refl refl
+      ready = fit_moved before.core _ (before.core.back.epoch + 1) c.append_durably.ensures.number refl refl
           (names.Log before.core.front.log.number) c.in-Ok.staged.frame.frame.items _ _
           (subst (λ (told : Option DiskState). ForSome told (IsFitFor before.core)) (sym c.in-Ok.ensures.no_change.told) before.ready)
           (rw c.in-Ok-append_durably.is at c.append_durably.ensures.written);

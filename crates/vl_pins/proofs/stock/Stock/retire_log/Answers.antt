@@ -6,10 +6,10 @@ use Rattle.vl_pins.proofs.stock.Stock.retire_log.Goals as goal
 
 pub returns-then-take-clause-retired : goal.returns-then-take-clause-retired
 returns-then-take-clause-retired g c =
-    becomes _ _ c.in-Some.in_use _ c.in-Some.is refl (log_retired c.args.version c.args.log) (λ i. record {
+    becomes _ _ c.in-Some.in_use _ c.in-Some.is refl (log_retired c.args.epoch c.args.log) (λ i. record {
       tables = c.in-Some.in_use.tables.items;
       logs = sym c.take.ensures.numbers i;
-      trash = (put_one _ c.args.version (names.Log c.args.log) _ (sym c.take.ensures.was ∙ c.if-take.true)
+      trash = (put_one _ c.args.epoch (names.Log c.args.log) _ (sym c.take.ensures.was ∙ c.if-take.true)
           ∙ sym c.push_back_reserved.ensures.items) i;
     })
 
@@ -25,10 +25,10 @@ returns-then-take-clause-room g c = λ t l n.
 
 pub returns-else-take-clause-retired : goal.returns-else-take-clause-retired
 returns-else-take-clause-retired g c =
-    becomes _ _ c.in-Some.in_use _ c.in-Some.is refl (log_retired c.args.version c.args.log) (λ i. record {
+    becomes _ _ c.in-Some.in_use _ c.in-Some.is refl (log_retired c.args.epoch c.args.log) (λ i. record {
       tables = c.in-Some.in_use.tables.items;
       logs = sym c.take.ensures.numbers i;
-      trash = put_none _ c.args.version (names.Log c.args.log) c.args.self.now.trash.items
+      trash = put_none _ c.args.epoch (names.Log c.args.log) c.args.self.now.trash.items
           (sym c.take.ensures.was ∙ c.if-take.false) i;
     })
 

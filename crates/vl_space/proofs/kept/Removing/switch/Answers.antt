@@ -36,12 +36,12 @@ retire_table-requires g c =
 pub loop-table-2-preserved : goal.loop-table-2-preserved
 loop-table-2-preserved g c = record {
   pins = c.loop-table-2.invariant.pins;
-  becomes = becomes_then (tables_retired c.args.version (take c.loop-table-2.table-index c.args.dropped.now))
-      (table_retired c.args.version _)
-      (tables_retired c.args.version (take (c.loop-table-2.table-index + 1) c.args.dropped.now)) c.loop-table.self.stock
+  becomes = becomes_then (tables_retired c.args.epoch (take c.loop-table-2.table-index c.args.dropped.now))
+      (table_retired c.args.epoch _)
+      (tables_retired c.args.epoch (take (c.loop-table-2.table-index + 1) c.args.dropped.now)) c.loop-table.self.stock
       c.loop-table-2.self.stock c.retire_table.new.self
-      (λ kept. sym (retired_more c.args.version (take c.loop-table-2.table-index c.args.dropped.now) _ kept)
-      ∙ ap (λ ns. tables_retired c.args.version ns kept)
+      (λ kept. sym (retired_more c.args.epoch (take c.loop-table-2.table-index c.args.dropped.now) _ kept)
+      ∙ ap (λ ns. tables_retired c.args.epoch ns kept)
       (sym (take_more c.args.dropped.now c.loop-table-2.table-index 0 c.loop-table-2-test.true)))
       c.loop-table-2.invariant.becomes c.retire_table.ensures.retired;
   room = λ n has. c.retire_table.ensures.room 0 0 n (c.loop-table-2.invariant.room n has);
@@ -54,7 +54,7 @@ retire_logs-requires g c =
 pub returns-clause-switched : goal.returns-clause-switched
 returns-clause-switched g c = λ kept has.
     c.retire_logs.ensures.retired _
-    (subst (λ ns. BecomesBy (tables_retired c.args.version ns) c.loop-table.self.stock c.loop-table-2.self.stock)
+    (subst (λ ns. BecomesBy (tables_retired c.args.epoch ns) c.loop-table.self.stock c.loop-table-2.self.stock)
     (take_all c.loop-table-2.table-index c.args.dropped.now c.loop-table-2-test.false) c.loop-table-2.invariant.becomes _
     (subst (λ ns. BecomesBy (with_tables ns) c.args.self.now.stock c.loop-table.self.stock)
     (take_all c.loop-table.table-index c.args.added.now c.loop-table-test.false) c.loop-table.invariant.becomes kept has))

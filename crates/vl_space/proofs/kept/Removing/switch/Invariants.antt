@@ -13,6 +13,6 @@ invariant-loop-table g l = record {
 abbrev pub invariant-loop-table-2 : goal.invariant-loop-table-2
 invariant-loop-table-2 g l = record {
   pins : l.self.pins ≡ l.initial.self.pins;
-  becomes : BecomesBy (tables_retired l.version (take l.table-index l.dropped)) l.initial.self.stock l.self.stock;
+  becomes : BecomesBy (tables_retired l.epoch (take l.table-index l.dropped)) l.initial.self.stock l.self.stock;
   room : (n : ℕ) → HasRoom l.initial.self.stock 0 0 n → HasRoom l.self.stock 0 0 n;
 }

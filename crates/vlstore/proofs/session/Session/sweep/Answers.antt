@@ -58,7 +58,7 @@ finish-requires-clause-stands g c =
     let gone = gone_before c.of-asked.result.value.removing new.removing in
     let outcome = sweep_outcome c.sweep-answer.result in
     let done : Done = done_by (sweep_done (sweep_ruling l h).layout) (Changed, sweep_lost None l gone) outcome in
-    let effects = sweep_effects (up_to None old.core.back.version_number old.removing.pins)
+    let effects = sweep_effects (up_to None old.core.back.epoch old.removing.pins)
     old.removing.stock.trash.items c.sweep-answer.result in
     stands_on bytes sure o tells v.seen x y (sweep_entry gone s l h) outcome (sweep_ruling l h) (sweep_otherwise None l gone)
     effects st
@@ -137,7 +137,7 @@ returns-clause-steps g c =
     (sym c.value-locked.ensures.value) c.take-turn.ensures.begins.meaning.1 in
     let gone = gone_before c.of-asked.result.value.removing new.removing in
     let outcome = sweep_outcome c.sweep-answer.result in
-    let effects = sweep_effects (up_to None old.core.back.version_number old.removing.pins)
+    let effects = sweep_effects (up_to None old.core.back.epoch old.removing.pins)
     old.removing.stock.trash.items c.sweep-answer.result in
     let before = c.self.inside.token in
     let after = c.finish.new.turn.1.0 in
