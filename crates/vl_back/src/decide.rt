@@ -4,7 +4,7 @@ ghost use Rattle.vl_back.specs.declared.decision.Decision.TheVariants.{Go};
 ghost use Rattle.vl_model.specs.Limits.{max_epoch};
 
 use crate::{Back, Decision};
-use vl_model::{Counter, MAX_FILE_NUMBER, MAX_EPOCH};
+use vl_model::{Counter, MAX_EPOCH, MAX_FILE_NUMBER};
 
 impl Back {
     /// What a flush comes to, where nothing has halted.

@@ -13,9 +13,9 @@
 //! `ready_levels` shares all tables but the inputs, and takes the memory for the outputs, which are then put one by one.
 #![tactic(auto)]
 
+mod append;
 mod choice;
 mod due;
-mod append;
 mod files;
 mod fill;
 mod inputs;

@@ -14,15 +14,15 @@
 
 mod accounts;
 mod client;
-mod commit;
 mod clients;
+mod commit;
 mod fails;
 mod gate;
 mod keeper;
 mod laws;
-mod store_run;
 mod shop;
 mod shops;
+mod store_run;
 mod transfer;
 mod trouble;
 
@@ -34,8 +34,8 @@ pub use laws::{
     a_conflict_is_a_crossing, a_transfer_has_two_accounts, a_turn_goes_on,
     no_call_of_modest_shops_stops, steps_are_counted, sure_shops_meet_no_fault, turns_go_on,
 };
-pub use store_run::{Driven, drive_store};
 pub use shop::Shop;
 pub use shops::{Closed, Shops};
+pub use store_run::{Driven, drive_store};
 pub use transfer::Transfer;
 pub use trouble::Cause;

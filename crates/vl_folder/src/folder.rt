@@ -10,10 +10,10 @@ use crate::folder_error::Trouble;
 use crate::held::Shared;
 use crate::identity::Identity;
 use crate::lent::Lent;
-use crate::parents::make_folder;
+use crate::open::plain_file;
 use crate::open_file::OpenFile;
 use crate::open_folder::OpenFolder;
-use crate::open::plain_file;
+use crate::parents::make_folder;
 use crate::slot::Slot;
 use crate::slots::place_of;
 use std::alloc::{AllocError, Global};
@@ -27,7 +27,7 @@ use vl_disk::Name;
 const NAMES: usize = 4096;
 
 /// So many files stay open that needn't.
-const MOST_OPEN: usize = 64;
+const MOST_OPEN_TO_WRITE: usize = 64;
 
 /// So many of the last bytes of a log may not have been written, though it was synced: no frame is longer.
 const UNWRITTEN: u64 = 17 * 1024 * 1024;
@@ -202,7 +202,7 @@ impl<R: Files<File = File>> Folder<R> {
     fn close_idle(&mut self)
         ensures { vec_len self.new.slots ≡ vec_len self.old.slots }
     {
-        if self.opened >= MOST_OPEN {
+        if self.opened >= MOST_OPEN_TO_WRITE {
             self.close_slots();
         }
         self.opened = self.opened.saturating_add(1);

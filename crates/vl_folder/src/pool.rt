@@ -9,7 +9,7 @@ use std::sync::atomic::{AtomicBool, Ordering};
 use std::sync::{Arc, Mutex};
 
 /// So many stay open. Of more, the one that was read least lately is closed, and opened again when it is read.
-const MOST_OPEN: usize = 128;
+const MOST_OPEN_TO_READ: usize = 128;
 
 #[derive(Drop)]
 struct Open {
@@ -27,7 +27,7 @@ pub struct Pool {
 
 impl Pool {
     pub fn new(alloc: Global) -> Result<Self, AllocError> {
-        let Some(most) = NonZeroUsize::new(MOST_OPEN) else {
+        let Some(most) = NonZeroUsize::new(MOST_OPEN_TO_READ) else {
             unreachable!();
         };
         Ok(Pool {
@@ -72,7 +72,7 @@ impl Pool {
 }
 
 fn close_gone(open: &mut LruCache<Identity, Open>) {
-    for _ in 0..MOST_OPEN {
+    for _ in 0..MOST_OPEN_TO_READ {
         let Some(identity) = first_gone(open) else {
             return;
         };

@@ -2,16 +2,16 @@
 //! their bytes.
 #![tactic(auto)]
 
+mod create;
 mod edit;
 mod fails;
 mod format;
 mod frames;
 mod levels;
-mod create;
 mod manifest_log;
 mod newer;
-mod reader;
 mod read;
+mod reader;
 mod staged;
 mod state;
 mod switch;

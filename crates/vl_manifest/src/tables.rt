@@ -7,8 +7,8 @@ use crate::edit::Edit;
 use crate::fails::StateFail;
 use crate::frames::behind_header;
 use crate::manifest_log::ManifestLog;
-use crate::reader::read_edits;
 use crate::read::{FIRST_FRAME, format_of};
+use crate::reader::read_edits;
 use crate::state::ManifestState;
 use std::alloc::{AllocError, Global};
 

@@ -2,10 +2,7 @@ use crate::edit::Edit;
 use crate::levels::Levels;
 use crate::state::ManifestState;
 use std::alloc::{AllocError, Global};
-use vl_model::{MAX_COMMIT_NUMBER, MAX_FILE_NUMBER};
-
-// How many versions of a key may be kept at most.
-const MAX_KEEP: u8 = 16;
+use vl_model::{MAX_COMMIT_NUMBER, MAX_FILE_NUMBER, MAX_KEEP};
 
 /// A state while the edits of a frame are applied, which may not have given all of it yet.
 #[derive(Debug, Drop)]

@@ -36,16 +36,16 @@ pub use laws::{
 };
 pub use lengths::{is_key_len, is_value_len, max_value_len};
 pub use limits::{
-    MAX_BATCH_BYTES, MAX_BATCH_RECORDS, MAX_COMMIT_NUMBER, MAX_FILE_NUMBER, MAX_INLINE_BYTES,
-    MAX_KEY_BYTES, MAX_LEVEL, MAX_LIVE, MAX_ROOM, MAX_SESSIONS, MAX_TRANSACTION_BYTES,
-    MAX_TRANSACTION_KEYS, MAX_VALUE_BYTES, MAX_VALUE_BYTES_BEFORE_TAGS, MAX_EPOCH,
+    MAX_BATCH_BYTES, MAX_BATCH_RECORDS, MAX_COMMIT_NUMBER, MAX_EPOCH, MAX_FILE_NUMBER,
+    MAX_INLINE_BYTES, MAX_KEEP, MAX_KEY_BYTES, MAX_LEVEL, MAX_LIVE, MAX_ROOM, MAX_SESSIONS,
+    MAX_TRANSACTION_BYTES, MAX_TRANSACTION_KEYS, MAX_VALUE_BYTES, MAX_VALUE_BYTES_BEFORE_TAGS,
     MIN_ROOM,
 };
 pub use log_frame::{LogFrame, Moved};
 pub use newest::{newest_of, newest_ref};
 pub use order::{Place, entry_order, place_order};
 pub use point::Point;
-pub use pointer::Pointer;
+pub use pointer::{POINTER_BYTES, Pointer};
 pub use span::Span;
 pub use value::Value;
 pub use way::Way;

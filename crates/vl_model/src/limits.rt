@@ -45,5 +45,8 @@ pub const MAX_FILE_NUMBER: u32 = 4_294_967_294;
 /// The greatest epoch.
 pub const MAX_EPOCH: u64 = (1 << 63) - 2;
 
+/// How many of the newest versions of a key may be kept.
+pub const MAX_KEEP: u8 = 16;
+
 /// How many sessions one store may have. There is at least one.
 pub const MAX_SESSIONS: u32 = 64;

@@ -2,8 +2,8 @@
 //! what an earlier run committed, goes on, and ends with status 1 at a bad line.
 #![tactic(auto)]
 
-mod command_line;
 mod clients;
+mod command_line;
 mod process;
 
 use crate::process::{Served, process_words, serve};

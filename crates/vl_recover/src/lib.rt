@@ -20,15 +20,15 @@ mod memtables;
 mod names;
 mod one_log;
 mod one_table;
+mod open;
 mod parts;
 mod plan;
-mod prepared;
 mod prepare;
+mod prepared;
 mod read;
-mod open;
 mod repair;
 mod tables;
 
 pub use fails::{NO_FILE, OpenError, OpenFail};
-pub use parts::Parts;
 pub use open::recover;
+pub use parts::Parts;

@@ -22,8 +22,8 @@ ghost use Rattle.vl_recover.specs.crash.Starts.{MayOpen};
 ghost use Rattle.vl_recover.specs.repairing.Steps.{MakesSome};
 
 use crate::found::HeldFiles;
-use crate::prepared::Prepared;
 use crate::prepare::prepare;
+use crate::prepared::Prepared;
 use crate::repair::repair;
 use crate::{OpenError, OpenFail, Parts};
 use std::alloc::Global;

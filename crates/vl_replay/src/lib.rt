@@ -4,7 +4,6 @@
 
 mod answer;
 mod benchmark;
-mod tables;
 mod contents;
 mod ended;
 mod input;
@@ -12,6 +11,7 @@ mod refuse;
 mod replayer;
 mod run;
 mod stopped;
+mod tables;
 
 pub use benchmark::bench;
 pub use ended::{Ended, NO_MEMORY, USAGE, finish};

@@ -26,7 +26,7 @@ pub use active::ActiveLog;
 pub use frame::{Commit, Frame, ReadRecord, Said};
 pub use laws::{pointers_lead_to_their_records, values_are_found_by_their_pointers};
 pub use lengths::LOG_HEADER_BYTES;
-pub use pointer::{POINTER_BYTES, pointer_bytes, read_pointer};
+pub use pointer::{pointer_bytes, read_pointer};
 pub use read::{LogRead, header_format, read_log, read_next};
 pub use record::{RECORD_HEAD_BYTES, RecordRef, read_record, write_record};
 pub use sealed::{Filled, SealedLog};

@@ -3,10 +3,7 @@ ghost use Rattle.vl_seglog.specs.Pointer as spelling;
 
 use byteorder::{BigEndian, ByteOrder};
 use vl_frame::{take_u32, take_u64};
-use vl_model::Pointer;
-
-/// How many bytes a pointer has.
-pub const POINTER_BYTES: usize = 16;
+use vl_model::{POINTER_BYTES, Pointer};
 
 /// A pointer's bytes: segment, place and length, each with its highest byte first.
 #[tactic(auto, unfolding(crate::specs::Pointer::pointer_bytes))]

@@ -14,7 +14,7 @@ use vl_engine_model::SegmentStat;
 pub type Logs = Vec<(u32, u64)>;
 
 // A log begins with a header of so many bytes, of which no record takes any.
-const HEADER_BYTES: u64 = 16;
+const LOG_HEADER_BYTES: u64 = 16;
 
 // How many logs in front are below a number.
 fn place_of(logs: &[(u32, u64)], number: u32) -> usize
@@ -67,7 +67,7 @@ fn stat(live: &LiveBytes, log: (u32, u64)) -> SegmentStat
 {
     SegmentStat {
         segment: log.0,
-        bytes: log.1.saturating_sub(HEADER_BYTES),
+        bytes: log.1.saturating_sub(LOG_HEADER_BYTES),
         live: u64::try_from(live.live(log.0)).unwrap_or(u64::MAX),
     }
 }
@@ -90,7 +90,7 @@ pub fn stats_of(
 pub fn share(live: &LiveBytes, log: (u32, u64)) -> SegmentStat
     ensures { result ≡ share_by live.now log }
 {
-    let bytes = log.1.saturating_sub(HEADER_BYTES);
+    let bytes = log.1.saturating_sub(LOG_HEADER_BYTES);
     let live = u64::try_from(live.live(log.0)).unwrap_or(bytes).min(bytes);
     SegmentStat {
         segment: log.0,

@@ -16,7 +16,7 @@ use crate::body::{MAX_BLOCK_ENTRIES, find_starts};
 use crate::fault::damaged;
 use crate::part::{body_of, read_into};
 use crate::read::fill;
-use crate::slot::{BlockId, MAX_FRAME_BYTES};
+use crate::slot::{BlockId, MAX_BLOCK_FRAME_BYTES};
 use crate::tested::Tested;
 use vl_disk::{HeldFile, ReadFault, Reader};
 use vl_frame::FrameKind;
@@ -32,7 +32,7 @@ pub fn read_block<H: HeldFile, R: Reader<Held = H>>(
     frame: &mut [u8],
     starts: &mut [u16],
 ) -> Result<usize, ReadFault>
-    requires frame { length frame.old ≡ MAX_FRAME_BYTES }
+    requires frame { length frame.old ≡ MAX_BLOCK_FRAME_BYTES }
     requires starts { length starts.old ≡ MAX_BLOCK_ENTRIES }
     ensures answers { Answers (R.faults reader.old) (R.faults reader.new) id.number (H.bytes held.now)
         (λ bytes count. (es : List Entry) × HasFrame id bytes (take id.length frame.new) (take count starts.new) es)
@@ -97,12 +97,12 @@ fn read_tested<H: HeldFile, R: Reader<Held = H>>(
 
 // Whether a block's frame has a length that is read, and lies inside the file.
 fn lies_inside<H: HeldFile>(held: &H, id: &BlockId) -> bool
-    ensures short { IsTrue result → id.now.length ≤ MAX_FRAME_BYTES }
+    ensures short { IsTrue result → id.now.length ≤ MAX_BLOCK_FRAME_BYTES }
     ensures inside { IsTrue result → id.now.place + id.now.length ≤ H.size held.now }
     ensures whole { (bytes : List ℕ) (es : List Entry) → H.bytes held.now ≡ Some bytes
         → StandsBlock id.now.format id.now.number bytes id.now.place id.now.length es → IsTrue result }
 {
-    id.length as usize <= MAX_FRAME_BYTES
+    id.length as usize <= MAX_BLOCK_FRAME_BYTES
         && id.place <= held.len()
         && id.length as u64 <= held.len() - id.place
 }

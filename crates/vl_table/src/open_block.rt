@@ -3,7 +3,7 @@
 
 use crate::block::read_block;
 use crate::body::{EntryRef, MAX_BLOCK_ENTRIES, entry_at};
-use crate::slot::{BlockId, MAX_FRAME_BYTES};
+use crate::slot::{BlockId, MAX_BLOCK_FRAME_BYTES};
 use crate::tested::Tested;
 use std::alloc::{AllocError, Global};
 use std::marker::Model;
@@ -48,7 +48,7 @@ impl OpenBlock {
     {
         Ok(OpenBlock {
             format: 0,
-            frame: vec![in alloc; 0; MAX_FRAME_BYTES]?,
+            frame: vec![in alloc; 0; MAX_BLOCK_FRAME_BYTES]?,
             starts: vec![in alloc; 0; MAX_BLOCK_ENTRIES]?,
             count: 0,
         })

@@ -12,7 +12,7 @@ use vl_disk::{HeldFile, ReadFault, Reader};
 use vl_frame::{FRAME_BYTES, take_u32};
 
 /// The longest frame of a block.
-pub const MAX_FRAME_BYTES: usize = MAX_BODY_BYTES + FRAME_BYTES;
+pub const MAX_BLOCK_FRAME_BYTES: usize = MAX_BODY_BYTES + FRAME_BYTES;
 
 /// Which block of which table.
 #[derive(Clone, Copy, Debug, PartialEq, Eq)]
@@ -68,7 +68,7 @@ impl Slot {
     {
         Ok(Slot {
             block: None,
-            frame: Vec::with_capacity(alloc, MAX_FRAME_BYTES)?,
+            frame: Vec::with_capacity(alloc, MAX_BLOCK_FRAME_BYTES)?,
             starts: Vec::with_capacity(alloc, MAX_BLOCK_ENTRIES)?,
             count: 0,
         })
@@ -101,7 +101,7 @@ impl Slot {
         ensures no_memory { NeedsNoMemory result }
     {
         self.block = None;
-        fill_up(&mut self.frame, MAX_FRAME_BYTES, 0);
+        fill_up(&mut self.frame, MAX_BLOCK_FRAME_BYTES, 0);
         fill_up(&mut self.starts, MAX_BLOCK_ENTRIES, 0);
         let (frame, starts) = (&mut self.frame, &mut self.starts);
         let count = read_block(reader, held, tested, at, id, frame, starts)?;

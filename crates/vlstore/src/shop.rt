@@ -1,11 +1,11 @@
 //! Sessions as those ask for them who drive clients over a store.
 
 mod answers;
+mod calls;
 mod collecting;
 mod ends;
 mod hand;
 mod sure;
-mod calls;
 
 ghost use Rattle.std.specs.Prelude.{◌≡◌, None, true};
 

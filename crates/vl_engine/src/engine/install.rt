@@ -155,10 +155,7 @@ impl<D: Disk> Engine<D> {
             Ok(Some((key, epoch))) => {
                 self.merging = None;
                 give_up(&mut self.removing, job);
-                Err(InstallFail::Raced {
-                    key,
-                    epoch,
-                })
+                Err(InstallFail::Raced { key, epoch })
             }
             Err(_) => Err(InstallFail::NoMemory(job)),
         }

@@ -23,9 +23,7 @@ use crate::{Engine, KeepFail};
 use vl_disk::{Disk, HeldFile, Name};
 use vl_engine_laws::Core;
 use vl_manifest::Edit;
-
-// How many of the newest versions of a key may be kept.
-const MAX_KEEP: u8 = 16;
+use vl_model::MAX_KEEP;
 
 impl<D: Disk> Engine<D> {
     /// Has merges keep so many of the newest versions of a key, from 1 to 16, and answers Ok where it is so already, without the

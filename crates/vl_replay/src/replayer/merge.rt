@@ -31,8 +31,8 @@ ghost use Rattle.vl_script_model.specs.Stored.{IsStopped, IsStored};
 ghost use Rattle.vl_script_model.specs.declared.fails.Halt.TheVariants as halts;
 ghost use Rattle.vl_script.specs.declared.line.Line.TheVariants as lines;
 
-use crate::tables::make_tables;
 use crate::replayer::Served;
+use crate::tables::make_tables;
 use vl_compact::Job;
 use vl_disk::{Disk, HeldFile, NoMemory, Writer};
 use vl_engine::{Engine, InstallFail};

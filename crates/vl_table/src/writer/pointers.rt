@@ -2,10 +2,7 @@ ghost use Rattle.std.specs.Prelude.{◌≡◌, ◌++◌, ◌<◌};
 ghost use Rattle.vl_table.specs.body.Entries as spelling;
 
 use byteorder::{BigEndian, ByteOrder};
-use vl_model::Pointer;
-
-// How many bytes a pointer has.
-pub const POINTER_BYTES: usize = 16;
+use vl_model::{POINTER_BYTES, Pointer};
 
 pub fn pointer_bytes(pointer: Pointer) -> [u8; POINTER_BYTES]
     ensures bytes { result ≡ spelling.pointer_bytes pointer }
