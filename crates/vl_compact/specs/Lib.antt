@@ -13,4 +13,5 @@ pub mod Reading
 pub mod Replacing
 pub mod Ruled
 pub mod Walking
+-- Laws of these, which proofs of this crate and of others cite.
 pub mod laws

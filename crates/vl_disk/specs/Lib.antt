@@ -8,7 +8,6 @@ pub mod DiskState
 pub mod FaultPlan
 pub mod Faults
 pub mod Held
-pub mod laws
 pub mod Lending
 pub mod MadeFile
 pub mod Moments
@@ -16,3 +15,5 @@ pub mod Name
 pub mod Performs
 pub mod Spare
 pub mod Started
+-- Laws of these, which proofs of this crate and of others cite.
+pub mod laws

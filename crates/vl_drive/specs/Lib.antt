@@ -4,7 +4,6 @@ pub mod Clients
 pub mod Driven
 pub mod Entries
 pub mod Knowing
-pub mod laws
 pub mod Modest
 pub mod Numbers
 pub mod Players
@@ -12,3 +11,5 @@ pub mod Playing
 pub mod Steps
 pub mod Stores
 pub mod Turns
+-- Laws of these, which proofs of this crate and of others cite.
+pub mod laws

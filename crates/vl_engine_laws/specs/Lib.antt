@@ -9,7 +9,6 @@ pub mod KeepFacts
 pub mod Known
 pub mod Laid
 pub mod Lasts
-pub mod laws
 pub mod Lent
 pub mod MayStep
 pub mod MoveFacts
@@ -21,3 +20,5 @@ pub mod RotateFacts
 pub mod Shown
 pub mod Spared
 pub mod Writing
+-- Laws of these, which proofs of this crate and of others cite.
+pub mod laws

@@ -2,7 +2,6 @@ pub mod AtAnswer
 pub mod Decides
 pub mod Garbage
 pub mod Jobs
-pub mod laws
 pub mod Levels
 pub mod LockHistory
 pub mod Logs
@@ -23,3 +22,5 @@ pub mod Tables
 pub mod Tickets
 pub mod Tidy
 pub mod TidyLevels
+-- Laws of these, which proofs of this crate and of others cite.
+pub mod laws

@@ -1,5 +1,6 @@
-pub mod laws
 pub mod Passes
 pub mod Kept
 pub mod Script
 pub mod Live
+-- Laws of these, which proofs of this crate and of others cite.
+pub mod laws

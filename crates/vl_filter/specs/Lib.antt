@@ -1,4 +1,5 @@
 pub mod Bits
 pub mod Filters
-pub mod laws
 pub mod Places
+-- Laws of these, which proofs of this crate and of others cite.
+pub mod laws

@@ -1,6 +1,7 @@
 pub mod Begins
 pub mod Frame
 pub mod Header
-pub mod laws
 pub mod FrameFields
 pub mod Runs
+-- Laws of these, which proofs of this crate and of others cite.
+pub mod laws

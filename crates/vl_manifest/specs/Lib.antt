@@ -2,7 +2,6 @@ pub mod Current
 pub mod Edits
 pub mod Formats
 pub mod Grammar
-pub mod laws
 pub mod Levels
 pub mod Making
 pub mod Manifest
@@ -10,3 +9,5 @@ pub mod Reading
 pub mod States
 pub mod Switching
 pub mod Tables
+-- Laws of these, which proofs of this crate and of others cite.
+pub mod laws

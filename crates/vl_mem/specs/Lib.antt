@@ -5,9 +5,10 @@ pub mod Event
 pub mod FailsPast
 pub mod Held
 pub mod Kept
-pub mod laws
 pub mod MemDisk
 pub mod Steady
 pub mod StoppingDisk
 pub mod SureDisk
 pub mod Written
+-- Laws of these, which proofs of this crate and of others cite.
+pub mod laws

@@ -1,4 +1,5 @@
 pub mod Files
 pub mod InUse
-pub mod laws
 pub mod Pins
+-- Laws of these, which proofs of this crate and of others cite.
+pub mod laws

@@ -1,5 +1,6 @@
-pub mod laws
 pub mod Past
 pub mod Reading
 pub mod Refusing
 pub mod Sees
+-- Laws of these, which proofs of this crate and of others cite.
+pub mod laws

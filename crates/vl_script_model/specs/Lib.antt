@@ -7,7 +7,6 @@ pub mod Exchanges
 pub mod Failing
 pub mod Halts
 pub mod Input
-pub mod laws
 pub mod Opening
 pub mod Readers
 pub mod Reading
@@ -20,3 +19,5 @@ pub mod Stopped
 pub mod Stored
 pub mod Trial
 pub mod Trying
+-- Laws of these, which proofs of this crate and of others cite.
+pub mod laws

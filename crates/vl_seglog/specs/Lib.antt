@@ -2,7 +2,6 @@ pub mod Answers
 pub mod Bodies
 pub mod Commit
 pub mod Frames
-pub mod laws
 pub mod LogReading
 pub mod Moves
 pub mod Placed
@@ -14,3 +13,5 @@ pub mod Sealed
 pub mod Series
 pub mod Staging
 pub mod Stored
+-- Laws of these, which proofs of this crate and of others cite.
+pub mod laws

@@ -3,7 +3,6 @@ pub mod Drawing
 pub mod Flushing
 pub mod Installing
 pub mod Keeping
-pub mod laws
 pub mod Merging
 pub mod Planning
 pub mod Relocating
@@ -12,3 +11,5 @@ pub mod Staging
 pub mod Stepping
 pub mod Steps
 pub mod Taking
+-- Laws of these, which proofs of this crate and of others cite.
+pub mod laws

@@ -21,5 +21,6 @@ pub mod Tested
 pub mod Used
 pub mod Worked
 pub mod body
-pub mod laws
 pub mod writer
+-- Laws of these, which proofs of this crate and of others cite.
+pub mod laws

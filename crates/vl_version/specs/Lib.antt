@@ -4,7 +4,6 @@ pub mod Faults
 pub mod Flushing
 pub mod Gathered
 pub mod Gives
-pub mod laws
 pub mod levels
 pub mod LiesOver
 pub mod Near
@@ -22,3 +21,5 @@ pub mod Scans
 pub mod Shared
 pub mod Sources
 pub mod Values
+-- Laws of these, which proofs of this crate and of others cite.
+pub mod laws
