@@ -8,6 +8,8 @@
 #   ? text     an input, of which a block may have several, for a run each
 #   > text     what is printed next
 #   = status   the status, at the block's end
+#   + text     an earlier run, `replay .` over this input, leaves its files in the folder
+#   @ F at N   behind such runs the lowest bit of byte N of the file F is turned; `cut N` leaves its first N bytes, and `gone` none
 #   ! input N  the Nth read of the input fails
 #   ! output   the output has room for what is printed, and for no byte more
 # In a text `;` is a line's end, and `*65*` and `*b65*` are the digits of 65 bytes 66 and bb. Such escapes as \r and \x20
@@ -28,6 +30,25 @@ limit=1024
 passed=0
 failed=0
 
+# Leaves in the folder what the runs `earlier` make, with the changes `altered`.
+earlier=()
+altered=()
+make_store() {
+  local it file how place
+  for it in "${earlier[@]}"; do
+    (cd "$top/folder" && printf '%s' "$it" | "$program" replay . >"$top/earlier") || echo "an earlier run failed: ${it@Q}"
+  done
+  for it in "${altered[@]}"; do
+    read -r file how place <<<"$it"
+    case "$how" in
+      at) python3 -c 'import sys; f = open(sys.argv[1], "r+b"); n = int(sys.argv[2]); f.seek(n); b = f.read(1)[0]; f.seek(n); f.write(bytes([b ^ 1]))' \
+        "$top/folder/$file" "$place" ;;
+      cut) truncate -s "$place" "$top/folder/$file" ;;
+      gone) rm "$top/folder/$file" ;;
+    esac
+  done
+}
+
 # Runs the program with the words $1 over the file `input`. Leaves what it prints in `out`, and sets the status. Where $2 is
 # a fault, it has that.
 run() {
@@ -40,6 +61,7 @@ run() {
   esac
   rm -rf "$top/folder" "$top/all"
   mkdir "$top/folder"
+  make_store
   truncate -s "$start" "$top/all"
   status=0
   (
@@ -117,11 +139,13 @@ try_file() {
       '< '*) spell "${line:2}" && input+="$text" ;;
       '? '*) spell "${line:2}" && inputs+=("$text") ;;
       '> '*) spell "${line:2}" && wanted+="$text" ;;
+      '+ '*) spell "${line:2}" && earlier+=("$text") ;;
+      '@ '*) altered+=("${line:2}") ;;
       '! '*) fault="${line:2}" ;;
       '= '*)
         [ "${#inputs[@]}" -gt 0 ] || inputs=("$input")
         try_block "${line:2}" "$(basename "$1"):$first"
-        all_words=() inputs=() input='' wanted='' fault=''
+        all_words=() inputs=() input='' wanted='' fault='' earlier=() altered=()
         ;;
       '' | '#'*) ;;
       *) echo "$1:$at: no line of a block" >&2 && exit 1 ;;
