@@ -18,7 +18,7 @@ use vl_disk::ReadFault;
 use vl_merge::Sources;
 use vl_model::{Cursor, Entry, Key, key_order};
 
-/// Entries of a merge's inputs, merged, and where it is among them. After a fault it is to be given up.
+/// Entries of a merge's inputs, merged, and where it is among them. After a fault it is to be abandoned.
 #[derive(Drop)]
 pub struct Keeping<C> {
     pub cursor: C,

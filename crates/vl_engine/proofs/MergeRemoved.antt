@@ -100,7 +100,7 @@ module _ {D H : Type 0} (g : Ghosts D) (bytes : H → Option (List ℕ)) where
       (subst (λ (r : Removing L). StaysRemoving g bytes old new core None kept r h l) (sym removing) s))))
 
   -- It was given up, and its files wait for their removal.
-  pub given_up_removing : {V K W : Type 0} (writers : Writers W) (old new last : D) (core after : Core H) (was now : Option OpenMerge)
+  pub abandoned_removing : {V K W : Type 0} (writers : Writers W) (old new last : D) (core after : Core H) (was now : Option OpenMerge)
       (kept kept_now : Collecting) {k : _} (job : Merging V K W k) (files files_now : Removing (Lent W k)) (h : History) (l : Layout)
       (s : StaysFor g bytes old new core was h l) → Collects core kept s.layout → Removes core files s.layout → (o : OpenJob)
       → s.layout.job ≡ Some o → IsUnderWay g k new core.front.halted was job
@@ -108,7 +108,7 @@ module _ {D H : Type 0} (g : Ghosts D) (bytes : H → Option (List ℕ)) where
       → LeavesFiles (files_in job) files.stock files_now.stock → files_now.pins ≡ record files.pins { merge = None }
       → last ≡ new → after ≡ core → now ≡ None → kept_now ≡ kept
       → StaysRemoving g bytes old last after now kept_now files_now h l
-  given_up_removing writers old new last core after was now kept kept_now {k} job files files_now h l s has removes o is_open way there
+  abandoned_removing writers old new last core after was now kept kept_now {k} job files files_now h l s has removes o is_open way there
       left pins disk same none collecting =
       ended_same old new last core after now kept kept_now files_now files_now h l disk same none collecting refl (record {
         stays = record {
@@ -264,7 +264,7 @@ module _ {D H R W : Type 0} (g : Ghosts D) (bytes : H → Option (List ℕ)) (ol
   not_put_in (fails.NoMemory back) carries fits collects removes handed ended way =
       let (t, same, collected, removed) = short_of g bytes old mid new before after was h l s alike kept o.job made effects files _
       carries fits collects removes then_open handed.1 refl in
-      given_up_removing g bytes k old new last after final then_open now kept kept_now back files files_now h l t collected removed o
+      abandoned_removing g bytes k old new last after final then_open now kept kept_now back files files_now h l t collected removed o
       (ap (λ (x : Layout). x.job) same ∙ is_open) way there ended.1 ended.0 disk core ended.2 collecting
   not_put_in (fails.Disk name) carries fits collects removes handed ended way =
       ended_same g bytes old new last after final now kept kept_now files files_now h l disk core

@@ -435,19 +435,19 @@ module _ {D H : Type 0} (g : Ghosts D) (bytes : H → Option (List ℕ)) where
             record { frozen = refl; flushed = refl; levels = refl; pass = refl },
           )
 
-  pub given_up : (old new last : D) (core after : Core H) (was now : Option OpenMerge) (h : History) (l : Layout)
+  pub abandoned : (old new last : D) (core after : Core H) (was now : Option OpenMerge) (h : History) (l : Layout)
       → StaysFor g bytes old new core was h l → last ≡ new → after ≡ core → now ≡ None → StaysFor g bytes old last after now h l
-  given_up old new last core after was now h l s disk same none =
+  abandoned old new last core after was now h l s disk same none =
       subst (λ (d : D). StaysFor g bytes old d after now h l) (sym disk)
       (subst (λ (c : Core H). StaysFor g bytes old new c now h l) (sym same)
       (subst (λ (m : Option OpenMerge). StaysFor g bytes old new core m h l) (sym none)
       (closes old new core h l s.layout s.same s.represents s.fits s.through s.again).0))
 
   -- and what is kept of where space comes back from stays that of the layout
-  pub given_up_collecting : (old new last : D) (core after : Core H) (was now : Option OpenMerge) (kept kept_now : Collecting) (h : History)
+  pub abandoned_collecting : (old new last : D) (core after : Core H) (was now : Option OpenMerge) (kept kept_now : Collecting) (h : History)
       (l : Layout) (s : StaysFor g bytes old new core was h l) → Collects core kept s.layout → last ≡ new → after ≡ core → now ≡ None
       → kept_now ≡ kept → StaysCollecting g bytes old last after now kept_now h l
-  given_up_collecting old new last core after was now kept kept_now h l s has disk same none kept_is =
+  abandoned_collecting old new last core after was now kept kept_now h l s has disk same none kept_is =
       subst (λ (d : D). StaysCollecting g bytes old d after now kept_now h l) (sym disk)
       (subst (λ (c : Core H). StaysCollecting g bytes old new c now kept_now h l) (sym same)
       (subst (λ (m : Option OpenMerge). StaysCollecting g bytes old new core m kept_now h l) (sym none)

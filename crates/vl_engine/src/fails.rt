@@ -5,7 +5,7 @@ use vl_disk::{Name, NoMemory, ReadFault};
 use vl_model::Counter;
 use vl_steps::StepFail;
 
-/// Why no merge was done. It was given up: no call reads its files any more, and a sweep or the next opening removes them.
+/// Why no merge was done. It was abandoned: no call reads its files any more, and a sweep or the next opening removes them.
 #[derive(Clone, Copy, Debug, PartialEq, Eq, Error)]
 pub enum MergeFail {
     /// An earlier step failed at this file, and nothing is changed any more.

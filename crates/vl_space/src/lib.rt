@@ -15,5 +15,5 @@ pub use collect::{head_of, idle_logs, shared_log, tally_of};
 pub use fails::{PickFail, SweepFail};
 pub use kept::{Collecting, Removing};
 pub use pin::begin;
-pub use remove::{give_up, leave_files};
+pub use remove::{abandon, abandon_files};
 pub use sweep::remove_file;

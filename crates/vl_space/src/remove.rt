@@ -153,7 +153,7 @@ fn put_sealed<H: HeldFile>(
 }
 
 /// The files of a merge that has ended without them wait for their removal: its tables', and its other ones.
-pub fn leave_files<W: Writer + Drop>(
+pub fn abandon_files<W: Writer + Drop>(
     stock: &mut Stock<Lent<W>>,
     made: Vec<Synced<W>>,
     leavings: Vec<Lent<W>>,
@@ -170,7 +170,7 @@ pub fn leave_files<W: Writer + Drop>(
 }
 
 /// The merge that is open has ended without its tables: it pins nothing, and its files wait for their removal.
-pub fn give_up<V: Drop, H: HeldFile, W: Writer + Drop>(
+pub fn abandon<V: Drop, H: HeldFile, W: Writer + Drop>(
     removing: &mut Removing<Lent<W>>,
     job: Job<V, H, W>,
 )
@@ -179,5 +179,5 @@ pub fn give_up<V: Drop, H: HeldFile, W: Writer + Drop>(
 {
     removing.pins.merge = None;
     let Parts { made, leavings, .. } = job.into_parts();
-    leave_files(&mut removing.stock, made, leavings);
+    abandon_files(&mut removing.stock, made, leavings);
 }

@@ -55,7 +55,7 @@ pub fn lent_count(merging: &Option<OpenMerge>) -> usize
 }
 
 /// Room for these among the retired files, and for one more.
-pub fn make_room_to_leave<L: Drop>(
+pub fn make_room_to_abandon<L: Drop>(
     stock: &mut Stock<L>,
     merging: &Option<OpenMerge>,
 ) -> Result<(), AllocError>

@@ -18,7 +18,7 @@ pub use commit::{StagedCommit, stage_commit};
 pub use done::Done;
 pub use fails::{CommitFail, InstallFail, KeepFail, MoveFail, StepFail};
 pub use flush::{ReadyFlush, ready_flush};
-pub use fresh::{lend_new, lent_count, make_room_to_leave, note_lent, ready_fresh};
+pub use fresh::{lend_new, lent_count, make_room_to_abandon, note_lent, ready_fresh};
 pub use install::{ReadyInstall, input_numbers, made_numbers, ready_install, write_install};
 pub use relocate::{StagedMove, has_room, move_length, note_moves, records_to_move, stage_move};
 pub use rotate::{refusal, stage_rotation};

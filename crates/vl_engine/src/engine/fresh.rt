@@ -27,7 +27,7 @@ use crate::{Engine, StepFail};
 use vl_compact::{Job, Lent};
 use vl_disk::{Disk, Name};
 use vl_model::{Counter, MAX_FILE_NUMBER};
-use vl_steps::{lend_new, make_room_to_leave, note_lent, ready_fresh};
+use vl_steps::{lend_new, make_room_to_abandon, note_lent, ready_fresh};
 use vl_version::Base;
 
 impl<D: Disk> Engine<D> {
@@ -122,7 +122,7 @@ impl<D: Disk> Engine<D> {
         if number > MAX_FILE_NUMBER {
             return Err(StepFail::Exhausted(Counter::Table));
         }
-        let Ok(()) = make_room_to_leave(&mut self.removing.stock, &self.merging) else {
+        let Ok(()) = make_room_to_abandon(&mut self.removing.stock, &self.merging) else {
             return Err(StepFail::NoMemory);
         };
         let Ok(()) = ready_fresh(&mut self.disk, &mut self.merging, job, number) else {

@@ -39,7 +39,7 @@ use std::alloc::AllocError;
 use vl_compact::{Job, Parts, numbers_of};
 use vl_disk::Disk;
 use vl_model::{Counter, Key};
-use vl_space::{give_up, head_of, idle_logs, leave_files};
+use vl_space::{abandon, abandon_files, head_of, idle_logs};
 use vl_stats::LiveBytes;
 use vl_steps::{
     ReadyInstall, input_numbers, lent_count, made_numbers, ready_install, write_install,
@@ -147,14 +147,14 @@ impl<D: Disk> Engine<D> {
     {
         if let Some(name) = self.core.front.halted {
             self.merging = None;
-            give_up(&mut self.removing, job);
+            abandon(&mut self.removing, job);
             return Err(InstallFail::Halted { name });
         }
         match self.raced(&job) {
             Ok(None) => self.install_unraced(job),
             Ok(Some((key, epoch))) => {
                 self.merging = None;
-                give_up(&mut self.removing, job);
+                abandon(&mut self.removing, job);
                 Err(InstallFail::Raced { key, epoch })
             }
             Err(_) => Err(InstallFail::NoMemory(job)),
@@ -196,7 +196,7 @@ impl<D: Disk> Engine<D> {
             (length (lent_in self.old.merging)) result }
     {
         if self.core.back.has_no_epoch() {
-            self.leave(job);
+            self.abandon_open(job);
             return Err(InstallFail::Exhausted(Counter::Version));
         }
         let Ok(live) = self.collecting.live_installed(self.alloc, &self.core, &job) else {
@@ -270,7 +270,7 @@ impl<D: Disk> Engine<D> {
                 self.core.back.apply_install(staged.state);
                 let head = head_of(&self.core);
                 let version = self.core.back.epoch;
-                leave_files(&mut self.removing.stock, Vec::new(self.alloc), leavings);
+                abandon_files(&mut self.removing.stock, Vec::new(self.alloc), leavings);
                 self.removing.switch(&added, &dropped, &live, head, version);
                 self.collecting.switch(live, head);
                 Ok(())
@@ -283,7 +283,7 @@ impl<D: Disk> Engine<D> {
     }
 
     // The merge that is open has ended. Its files, which no version needs, wait for their removal.
-    pub(super) fn leave(&mut self, job: Job<Base<D::Held, D::Reader>, D::Held, D::Writer>)
+    pub(super) fn abandon_open(&mut self, job: Job<Base<D::Held, D::Reader>, D::Held, D::Writer>)
         requires { IsUnderWay D.Watched D.Writer.Writer self.old.disk self.old.core.front.halted self.old.merging job }
         ensures left { LeavesFiles (files_in job) self.old.removing.stock self.new.removing.stock }
         ensures pins { self.new.removing.pins ≡ record self.old.removing.pins { merge = None } }
@@ -295,6 +295,6 @@ impl<D: Disk> Engine<D> {
         self.merging = None;
         self.removing.pins.merge = None;
         let Parts { made, leavings, .. } = job.into_parts();
-        leave_files(&mut self.removing.stock, made, leavings);
+        abandon_files(&mut self.removing.stock, made, leavings);
     }
 }

@@ -22,7 +22,7 @@ use vl_version::Base;
 impl<D: Disk> Engine<D> {
     /// Does a whole merge of tables here and now: `plan`, then `ready`, `fresh` and `fill` until all of its tables are made, then
     /// `install`. It answers with the number of entries that the new tables have; none where a merge is open, or no level is due.
-    /// Where it fails the merge is given up, and a later call begins another one.
+    /// Where it fails the merge is abandoned, and a later call begins another one.
     pub fn merge(&mut self) -> Result<Option<u64>, MergeFail>
         // Whatever it answers, the engine stands for the same history, with a layout in which tables may have been merged; while it
         // isn't halted the disk holds it. What a crash meanwhile leaves shows the history, and a store may be opened on the disk again.
@@ -68,7 +68,7 @@ impl<D: Disk> Engine<D> {
         let kept = job.kept_count();
         match self.install(job) {
             Ok(()) => Ok(Some(kept)),
-            Err(fail) => Err(self.given_up(fail)),
+            Err(fail) => Err(self.abandoned(fail)),
         }
     }
 
@@ -115,7 +115,7 @@ impl<D: Disk> Engine<D> {
     }
 
     // The tables weren't put in: the merge is over, also where it was handed back.
-    fn given_up(
+    fn abandoned(
         &mut self,
         fail: InstallFail<Base<D::Held, D::Reader>, D::Held, D::Writer>,
     ) -> MergeFail
@@ -131,7 +131,7 @@ impl<D: Disk> Engine<D> {
             InstallFail::Raced { .. } => MergeFail::Raced,
             InstallFail::Exhausted(counter) => MergeFail::Exhausted(counter),
             InstallFail::NoMemory(job) => {
-                self.leave(job);
+                self.abandon_open(job);
                 MergeFail::NoMemory
             }
             InstallFail::Disk { name } => MergeFail::Disk { name },

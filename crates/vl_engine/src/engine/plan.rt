@@ -70,7 +70,7 @@ impl<D: Disk> Engine<D> {
         ensures new { IfOk result (λ job. ForSome job IsNew) }
         // One begins only where none is open.
         ensures open { IfOk result (λ job. ForSome job (λ _. self.old.merging ≡ None)) }
-        // It may be carried out, and given up.
+        // It may be carried out, and abandoned.
         ensures under_way { IfOk result (λ job. ForSome job (IsUnderWay D.Watched D.Writer.Writer self.new.disk
             self.new.core.front.halted self.new.merging)) }
 
@@ -130,7 +130,7 @@ impl<D: Disk> Engine<D> {
         ensures new { IfOk result (λ job. ForSome job IsNew) }
         // One begins only where none is open.
         ensures open { IfOk result (λ job. ForSome job (λ _. self.old.merging ≡ None)) }
-        // It may be carried out, and given up.
+        // It may be carried out, and abandoned.
         ensures under_way { IfOk result (λ job. ForSome job (IsUnderWay D.Watched D.Writer.Writer self.new.disk
             self.new.core.front.halted self.new.merging)) }
 
@@ -239,7 +239,7 @@ impl<D: Disk> Engine<D> {
         }
     }
 
-    /// Gives up a merge. No call reads its files any more, and a sweep or the next opening removes what is left of them. It wants
+    /// Abandons a merge. No call reads its files any more, and a sweep or the next opening removes what is left of them. It wants
     /// no memory, and the disk isn't asked.
     pub fn abandon(&mut self, job: Job<Base<D::Held, D::Reader>, D::Held, D::Writer>)
         requires { IsUnderWay D.Watched D.Writer.Writer self.old.disk self.old.core.front.halted self.old.merging job }
@@ -268,6 +268,6 @@ impl<D: Disk> Engine<D> {
         ensures merging { self.new.merging ≡ None }
         ensures collecting { self.new.collecting ≡ self.old.collecting }
     {
-        self.leave(job);
+        self.abandon_open(job);
     }
 }

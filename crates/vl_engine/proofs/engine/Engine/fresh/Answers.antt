@@ -60,7 +60,7 @@ invariant_of-self-in-Ok-lend_new g c =
           c.in-Ok-lend_new.writer lends c.note_lent.new.merging c.note_lent.ensures;
       known = c.args.self.now.known;
       there = λ running. there_drawn g.D.Watched g.D.Writer.Writer c.args.self.now.disk c.lend_new.new.disk core c.args.self.now.merging
-          c.note_lent.new.merging c.args.self.now.removing.stock c.make_room_to_leave.new.stock
+          c.note_lent.new.merging c.args.self.now.removing.stock c.make_room_to_abandon.new.stock
           (λ none. lends.untold (ready.no_change.told ∙ none))
           (stand_lent core (told c.args.self.now.disk) (told c.ready_fresh.new.disk) (told c.lend_new.new.disk) ready.no_change.told
           lends.performs.done running c.args.self.now.ready)
@@ -73,9 +73,9 @@ invariant_of-self-in-Ok-lend_new g c =
           (more_then c.args.self.now.merging c.ready_fresh.new.merging c.note_lent.new.merging core.back.state.next_table ready.merging
           c.note_lent.ensures))
           (record {
-            in_use = c.make_room_to_leave.ensures.in_use;
-            trash = c.make_room_to_leave.ensures.trash;
-            capacity = c.make_room_to_leave.ensures.capacity;
+            in_use = c.make_room_to_abandon.ensures.in_use;
+            trash = c.make_room_to_abandon.ensures.trash;
+            capacity = c.make_room_to_abandon.ensures.capacity;
           }) c.in-Ok.ensures.room (c.args.self.now.there running);
     }
 
@@ -208,54 +208,54 @@ returns-in-Ok-lend_new-clause-within g c fine within = within
 
 -- ---- which files can go
 
-pub returns-in_default-make_room_to_leave-clause-carries : goal.returns-in_default-make_room_to_leave-clause-carries
-returns-in_default-make_room_to_leave-clause-carries g c h l is =
+pub returns-in_default-make_room_to_abandon-clause-carries : goal.returns-in_default-make_room_to_abandon-clause-carries
+returns-in_default-make_room_to_abandon-clause-carries g c h l is =
     let watched : IsWatched g.D.Watched = record { only_now = g.met.D.Disk.only_now; counts_now = g.met.D.Disk.counts_now } in
     carries_short g.D.Watched watched g.D.Held.HeldFile.bytes c.args.self.now.core h l c.args.self.now.disk is c.args.self.now.disk
     (looked_none g.D.Watched c.args.self.now.disk)
 
-pub returns-in_default-make_room_to_leave-clause-refused : goal.returns-in_default-make_room_to_leave-clause-refused
-returns-in_default-make_room_to_leave-clause-refused g c = same_itself c.args.self.now.merging c.requires
+pub returns-in_default-make_room_to_abandon-clause-refused : goal.returns-in_default-make_room_to_abandon-clause-refused
+returns-in_default-make_room_to_abandon-clause-refused g c = same_itself c.args.self.now.merging c.requires
 
-pub returns-in_default-make_room_to_leave-clause-removes : goal.returns-in_default-make_room_to_leave-clause-removes
-returns-in_default-make_room_to_leave-clause-removes g c h l is numbers removes =
+pub returns-in_default-make_room_to_abandon-clause-removes : goal.returns-in_default-make_room_to_abandon-clause-removes
+returns-in_default-make_room_to_abandon-clause-removes g c h l is numbers removes =
     let core = c.args.self.now.core in
-    let after = (record c.args.self.now.removing { stock = c.make_room_to_leave.new.stock }) in
+    let after = (record c.args.self.now.removing { stock = c.make_room_to_abandon.new.stock }) in
     decides_short (λ _ (k : Layout). Removes core after k) h l (fresh_ruling l h) l
     (removes_roomier core l c.args.self.now.removing after refl removes (record {
-      in_use = c.make_room_to_leave.ensures.in_use;
-      trash = c.make_room_to_leave.ensures.trash;
-      capacity = c.make_room_to_leave.ensures.capacity;
+      in_use = c.make_room_to_abandon.ensures.in_use;
+      trash = c.make_room_to_abandon.ensures.trash;
+      capacity = c.make_room_to_abandon.ensures.capacity;
     }))
 
 pub returns-in_default-ready_fresh-clause-removes : goal.returns-in_default-ready_fresh-clause-removes
 returns-in_default-ready_fresh-clause-removes g c h l is numbers removes =
     let core = c.args.self.now.core in
-    let after = (record c.args.self.now.removing { stock = c.make_room_to_leave.new.stock }) in
+    let after = (record c.args.self.now.removing { stock = c.make_room_to_abandon.new.stock }) in
     decides_short (λ _ (k : Layout). Removes core after k) h l (fresh_ruling l h) l
     (removes_roomier core l c.args.self.now.removing after refl removes (record {
-      in_use = c.make_room_to_leave.ensures.in_use;
-      trash = c.make_room_to_leave.ensures.trash;
-      capacity = c.make_room_to_leave.ensures.capacity;
+      in_use = c.make_room_to_abandon.ensures.in_use;
+      trash = c.make_room_to_abandon.ensures.trash;
+      capacity = c.make_room_to_abandon.ensures.capacity;
     }))
 
 pub returns-in-Ok-lend_new-clause-removes : goal.returns-in-Ok-lend_new-clause-removes
 returns-in-Ok-lend_new-clause-removes g c h l is numbers removes =
     let core = c.args.self.now.core in
-    let after = (record c.args.self.now.removing { stock = c.make_room_to_leave.new.stock }) in
+    let after = (record c.args.self.now.removing { stock = c.make_room_to_abandon.new.stock }) in
     decides_drawn core h l is.stands.fronts (λ _ (k : Layout). Removes (drawn_core core) after k) c.in_default.is numbers
     c.if-number-gt-MAX_FILE_NUMBER.false
     (removes_drawn core l c.args.self.now.removing after refl removes (record {
-      in_use = c.make_room_to_leave.ensures.in_use;
-      trash = c.make_room_to_leave.ensures.trash;
-      capacity = c.make_room_to_leave.ensures.capacity;
+      in_use = c.make_room_to_abandon.ensures.in_use;
+      trash = c.make_room_to_abandon.ensures.trash;
+      capacity = c.make_room_to_abandon.ensures.capacity;
     })
     c.args.self.now.merging (opens_lent c.args.self.now.merging l.job is.opens) c.in-Ok.ensures.room)
 
 pub returns-in-Err-clause-removes : goal.returns-in-Err-clause-removes
 returns-in-Err-clause-removes g c h l is numbers removes =
     let core = c.args.self.now.core in
-    let after = (record c.args.self.now.removing { stock = c.make_room_to_leave.new.stock }) in
+    let after = (record c.args.self.now.removing { stock = c.make_room_to_abandon.new.stock }) in
     let name = names.Table core.back.state.next_table in
     decides_undrawn core h l is.stands.fronts (λ _ (k : Layout). Removes _ after k) name no_effects c.in_default.is
     (removes_halted _ after l (file_of name) removes.pins)
@@ -273,10 +273,10 @@ invariant_of-self-in_default-ready_fresh g c =
           ready.no_change.told ready.merging before.lent;
       known = before.known;
       there = λ running. there_roomier g.D.Watched g.D.Writer.Writer c.ready_fresh.new.disk core c.ready_fresh.new.merging
-          before.removing.stock c.make_room_to_leave.new.stock (record {
-            in_use = c.make_room_to_leave.ensures.in_use;
-            trash = c.make_room_to_leave.ensures.trash;
-            capacity = c.make_room_to_leave.ensures.capacity;
+          before.removing.stock c.make_room_to_abandon.new.stock (record {
+            in_use = c.make_room_to_abandon.ensures.in_use;
+            trash = c.make_room_to_abandon.ensures.trash;
+            capacity = c.make_room_to_abandon.ensures.capacity;
           })
           (there_told g.D.Watched g.D.Writer.Writer before.disk c.ready_fresh.new.disk core core before.merging
           c.ready_fresh.new.merging before.removing.stock before.removing.stock refl refl (omega arith)

@@ -467,12 +467,12 @@ pub returns-in-Ok-Some-clause-removes : goal.returns-in-Ok-Some-clause-removes
 returns-in-Ok-Some-clause-removes g c state h l o told is opened files whole lent has removes =
     let core = c.args.self.now.core in
     let way = way_of g.D.Watched g.D.Writer.Writer c.args.self.now.disk core.front.halted c.args.self.now.merging c.args.job c.requires in
-    ended_by (StandsOpen g.D.Held.HeldFile.bytes core None) (λ k x. Removes core c.give_up-in-Ok-Some.new.removing x) h l o.job
+    ended_by (StandsOpen g.D.Held.HeldFile.bytes core None) (λ k x. Removes core c.abandon-in-Ok-Some.new.removing x) h l o.job
     (made_of c.args.job o.job) _ no_effects
     (removes_left g.D.Watched c.args.self.now.disk core c.args.self.now.merging c.args.job c.args.self.now.removing
-    c.give_up-in-Ok-Some.new.removing c.args.self.now.there way c.give_up-in-Ok-Some.ensures.left l (made_of c.args.job o.job)
+    c.abandon-in-Ok-Some.new.removing c.args.self.now.there way c.abandon-in-Ok-Some.ensures.left l (made_of c.args.job o.job)
     (whole_numbers g.D.Writer.Writer g.D.Held.HeldFile.bytes c.args.job o.job whole) (λ runs. c.in_default.is)
-    c.give_up-in-Ok-Some.ensures.pins removes)
+    c.abandon-in-Ok-Some.ensures.pins removes)
     (λ e. raced_other _ _ e)
     (returns-in-Ok-Some-clause-stands g c state h l o told is opened files whole lent)
 
@@ -480,12 +480,12 @@ pub returns-in-Some-clause-removes : goal.returns-in-Some-clause-removes
 returns-in-Some-clause-removes g c state h l o told is opened files whole lent has removes =
     let core = c.args.self.now.core in
     let way = way_of g.D.Watched g.D.Writer.Writer c.args.self.now.disk core.front.halted c.args.self.now.merging c.args.job c.requires in
-    ended_by (StandsOpen g.D.Held.HeldFile.bytes core None) (λ k x. Removes core c.give_up.new.removing x) h l o.job
+    ended_by (StandsOpen g.D.Held.HeldFile.bytes core None) (λ k x. Removes core c.abandon.new.removing x) h l o.job
     (made_of c.args.job o.job) _ no_effects
     (removes_left g.D.Watched c.args.self.now.disk core c.args.self.now.merging c.args.job c.args.self.now.removing
-    c.give_up.new.removing c.args.self.now.there way c.give_up.ensures.left l (made_of c.args.job o.job)
+    c.abandon.new.removing c.args.self.now.there way c.abandon.ensures.left l (made_of c.args.job o.job)
     (whole_numbers g.D.Writer.Writer g.D.Held.HeldFile.bytes c.args.job o.job whole)
-    (λ runs. halted_none core.front.halted (is.stands.fronts.halted ∙ runs)) c.give_up.ensures.pins removes)
+    (λ runs. halted_none core.front.halted (is.stands.fronts.halted ∙ runs)) c.abandon.ensures.pins removes)
     (λ e. halted_other _ e)
     (returns-in-Some-clause-stands g c state h l o told is opened files whole lent)
 
@@ -500,15 +500,15 @@ returns-in-Err-clause-removes g c state h l o told is opened files whole lent ha
 pub invariant_of-self-in-Ok-Some-clause-there : goal.invariant_of-self-in-Ok-Some-clause-there
 invariant_of-self-in-Ok-Some-clause-there g c running =
     let was = c.args.self.now in
-    there_left g.D.Watched was.disk was.core was.merging c.args.job was.removing.stock c.give_up-in-Ok-Some.new.removing.stock
+    there_left g.D.Watched was.disk was.core was.merging c.args.job was.removing.stock c.abandon-in-Ok-Some.new.removing.stock
     (was.there running)
     (way_of g.D.Watched g.D.Writer.Writer was.disk was.core.front.halted was.merging c.args.job c.requires)
-    c.give_up-in-Ok-Some.ensures.left running was.lent
+    c.abandon-in-Ok-Some.ensures.left running was.lent
 
 -- what a halted engine leaves pinned
 
 pub returns-in-Some-clause-unpinned : goal.returns-in-Some-clause-unpinned
-returns-in-Some-clause-unpinned g c name is = c.give_up.ensures.pins
+returns-in-Some-clause-unpinned g c name is = c.abandon.ensures.pins
 
 pub returns-in-Ok-None-clause-unpinned : goal.returns-in-Ok-None-clause-unpinned
 returns-in-Ok-None-clause-unpinned g c name is = not_halted c.args.self.now.core.front.halted name c.in_default.is is

@@ -5,9 +5,9 @@ use Rattle.vl_disk.specs.declared.errors.NoMemory.{NoMemory}
 use Rattle.vl_engine_laws.specs.laws.Carrying.{IsWatched}
 use Rattle.vl_engine.proofs.UnderWay.{handed_back_way, just_planned, none_open}
 use Rattle.vl_engine_laws.specs.declared.kept.Core.{Core}
-use Rattle.vl_engine.proofs.MergeRemoved.{given_up_removing, install_unpinned, is_halted, not_put_in, put_in_removing}
+use Rattle.vl_engine.proofs.MergeRemoved.{abandoned_removing, install_unpinned, is_halted, not_put_in, put_in_removing}
 use Rattle.vl_engine.proofs.MergeRemoved.{untouched_removing, was_put_in}
-use Rattle.vl_engine.proofs.Whole.{begun, begun_with, collects_so, given_up, given_up_collecting, goes_on, none_kept, put_in}
+use Rattle.vl_engine.proofs.Whole.{begun, begun_with, collects_so, abandoned, abandoned_collecting, goes_on, none_kept, put_in}
 use Rattle.vl_engine.proofs.Switching.{install_idle}
 use Rattle.vl_engine.proofs.Whole.{put_in_collecting, unless_halted, untouched_by, untouched_collecting}
 use Rattle.vl_steps.specs.declared.fails.InstallFail.TheVariants as fails
@@ -60,7 +60,7 @@ returns-in-Err-clause-stays g c h l is stands fits =
     (c.in_ok-job.ensures.job h l stands) in
     let makes = c.in-Err.ensures.makes h opened.stays.layout opened.open_job opened.stays.represents opened.stays.stands
     opened.stays.fits opened.is_open opened.has (c.in_ok-job.ensures.looks h l stands c.in-Some.job c.in-Some.is) in
-    given_up g.D.Watched bytes c.args.self.now.disk c.carry_out.new.self.disk c.abandon.new.self.disk c.carry_out.new.self.core
+    abandoned g.D.Watched bytes c.args.self.now.disk c.carry_out.new.self.disk c.abandon.new.self.disk c.carry_out.new.self.core
     c.abandon.new.self.core c.carry_out.new.self.merging c.abandon.new.self.merging h l
     (goes_on g.D.Watched bytes c.args.self.now.disk c.plan.new.self.disk c.carry_out.new.self.disk c.plan.new.self.core
     c.carry_out.new.self.core c.plan.new.self.merging c.carry_out.new.self.merging h l opened.stays opened.alike makes.stays)
@@ -82,7 +82,7 @@ returns-in-Ok-clause-stays g c h l is stands fits =
     c.carry_out.new.self.core c.plan.new.self.merging c.carry_out.new.self.merging h l opened.stays opened.alike makes.stays in
     let whole = subst (λ (j : Job). HasAllMerge g.D.Writer.Writer bytes c.carry_out.new.job j) (sym makes.job_is) makes.whole in
     let lent = subst (λ (j : Job). AreLent makes.open_job.lent (made_of c.carry_out.new.job j)) (sym makes.job_is) makes.lent in
-    given_up g.D.Watched bytes c.args.self.now.disk c.install.new.self.disk c.install.new.self.disk c.install.new.self.core
+    abandoned g.D.Watched bytes c.args.self.now.disk c.install.new.self.disk c.install.new.self.disk c.install.new.self.core
     c.install.new.self.core _ c.install.new.self.merging h l
     (put_in g.D.Watched bytes c.args.self.now.disk c.carry_out.new.self.disk c.install.new.self.disk c.carry_out.new.self.core
     c.install.new.self.core c.carry_out.new.self.merging c.install.new.self.merging h l s (makes.running ∙ opened.alike)
@@ -107,16 +107,16 @@ returns-in-Err-install-clause-stays g c h l is stands fits =
     c.carry_out.new.self.core c.plan.new.self.merging c.carry_out.new.self.merging h l opened.stays opened.alike makes.stays in
     let whole = subst (λ (j : Job). HasAllMerge g.D.Writer.Writer bytes c.carry_out.new.job j) (sym makes.job_is) makes.whole in
     let lent = subst (λ (j : Job). AreLent makes.open_job.lent (made_of c.carry_out.new.job j)) (sym makes.job_is) makes.lent in
-    given_up g.D.Watched bytes c.args.self.now.disk c.install.new.self.disk c.given_up.new.self.disk c.install.new.self.core
-    c.given_up.new.self.core _ c.given_up.new.self.merging h l
+    abandoned g.D.Watched bytes c.args.self.now.disk c.install.new.self.disk c.abandoned.new.self.disk c.install.new.self.core
+    c.abandoned.new.self.core _ c.abandoned.new.self.merging h l
     (put_in g.D.Watched bytes c.args.self.now.disk c.carry_out.new.self.disk c.install.new.self.disk c.carry_out.new.self.core
     c.install.new.self.core c.carry_out.new.self.merging c.install.new.self.merging h l s (makes.running ∙ opened.alike)
     makes.open_job.job (made_of c.carry_out.new.job makes.open_job.job) _ _
     (c.in-Err-install.ensures.carries h s.layout makes.open_job s.represents s.stands makes.is_open whole lent)
     (c.in-Err-install.ensures.fits h s.layout makes.open_job s.stands makes.is_open whole lent s.fits))
-    c.given_up.ensures.disk c.given_up.ensures.core
-    (none_open c.carry_out.new.job c.carry_out.new.self.merging c.install.new.self.merging c.given_up.new.self.merging
-    c.install.new.self.removing c.given_up.new.self.removing c.in-Err-install.fail c.in-Err-install.ensures.handed c.given_up.ensures.ended)
+    c.abandoned.ensures.disk c.abandoned.ensures.core
+    (none_open c.carry_out.new.job c.carry_out.new.self.merging c.install.new.self.merging c.abandoned.new.self.merging
+    c.install.new.self.removing c.abandoned.new.self.removing c.in-Err-install.fail c.in-Err-install.ensures.handed c.abandoned.ensures.ended)
 
 -- how many entries it kept
 
@@ -172,7 +172,7 @@ returns-in-Err-clause-collects g c h l is stands fits has =
     (ap (λ (v : Vec (SealedLog g.row.D-Held.Denot) Global). v.items) c.carry_out.ensures.logs
     ∙ ap (λ (k : Core g.row.D-Held.Denot). k.version.behind.logs.items) c.plan.ensures.core)
     (c.carry_out.ensures.collecting ∙ c.plan.ensures.collecting) has in
-    given_up_collecting g.D.Watched bytes c.args.self.now.disk c.carry_out.new.self.disk c.abandon.new.self.disk
+    abandoned_collecting g.D.Watched bytes c.args.self.now.disk c.carry_out.new.self.disk c.abandon.new.self.disk
     c.carry_out.new.self.core c.abandon.new.self.core c.carry_out.new.self.merging c.abandon.new.self.merging
     c.carry_out.new.self.collecting c.abandon.new.self.collecting h l s collects c.abandon.ensures.disk c.abandon.ensures.core
     c.abandon.ensures.merging c.abandon.ensures.collecting
@@ -208,7 +208,7 @@ returns-in-Ok-clause-collects g c h l is stands fits has =
     c.install.new.self.collecting _ h s.layout makes.open_job.job (made_of c.carry_out.new.job makes.open_job.job) _ (fails.Halted name)
     _ (c.in-Ok.ensures.halted name halted) c.in-Ok.ensures.core (c.in-Ok.ensures.idle name halted) collects
     (c.in-Ok.ensures.carries h s.layout makes.open_job s.represents s.stands makes.is_open whole lent).decides)) in
-    given_up_collecting g.D.Watched bytes c.args.self.now.disk c.install.new.self.disk c.install.new.self.disk
+    abandoned_collecting g.D.Watched bytes c.args.self.now.disk c.install.new.self.disk c.install.new.self.disk
     c.install.new.self.core c.install.new.self.core _ c.install.new.self.merging c.install.new.self.collecting
     c.install.new.self.collecting h l put.stays put.collects refl refl c.in-Ok.ensures.handed refl
 
@@ -244,12 +244,12 @@ returns-in-Err-install-clause-collects g c h l is stands fits has =
     c.install.new.self.collecting _ h s.layout makes.open_job.job (made_of c.carry_out.new.job makes.open_job.job) _ (fails.Halted name)
     _ (c.in-Err-install.ensures.halted name halted) c.in-Err-install.ensures.core (c.in-Err-install.ensures.idle name halted) collects
     (c.in-Err-install.ensures.carries h s.layout makes.open_job s.represents s.stands makes.is_open whole lent).decides)) in
-    given_up_collecting g.D.Watched bytes c.args.self.now.disk c.install.new.self.disk c.given_up.new.self.disk
-    c.install.new.self.core c.given_up.new.self.core _ c.given_up.new.self.merging c.install.new.self.collecting
-    c.given_up.new.self.collecting h l put.stays put.collects c.given_up.ensures.disk c.given_up.ensures.core
-    (none_open c.carry_out.new.job c.carry_out.new.self.merging c.install.new.self.merging c.given_up.new.self.merging
-    c.install.new.self.removing c.given_up.new.self.removing c.in-Err-install.fail c.in-Err-install.ensures.handed c.given_up.ensures.ended)
-    c.given_up.ensures.collecting
+    abandoned_collecting g.D.Watched bytes c.args.self.now.disk c.install.new.self.disk c.abandoned.new.self.disk
+    c.install.new.self.core c.abandoned.new.self.core _ c.abandoned.new.self.merging c.install.new.self.collecting
+    c.abandoned.new.self.collecting h l put.stays put.collects c.abandoned.ensures.disk c.abandoned.ensures.core
+    (none_open c.carry_out.new.job c.carry_out.new.self.merging c.install.new.self.merging c.abandoned.new.self.merging
+    c.install.new.self.removing c.abandoned.new.self.removing c.in-Err-install.fail c.in-Err-install.ensures.handed c.abandoned.ensures.ended)
+    c.abandoned.ensures.collecting
 
 -- which pass is open
 
@@ -270,11 +270,11 @@ returns-in-Ok-clause-passing g c =
 
 pub returns-in-Err-install-clause-passing : goal.returns-in-Err-install-clause-passing
 returns-in-Err-install-clause-passing g c =
-    ap (λ (k : Collecting). k.passing) c.given_up.ensures.collecting ∙ c.in-Err-install.ensures.passing
+    ap (λ (k : Collecting). k.passing) c.abandoned.ensures.collecting ∙ c.in-Err-install.ensures.passing
     ∙ ap (λ (k : Collecting). k.passing) (c.carry_out.ensures.collecting ∙ c.plan.ensures.collecting)
 
-pub given_up-requires : goal.given_up-requires
-given_up-requires g c =
+pub abandoned-requires : goal.abandoned-requires
+abandoned-requires g c =
     handed_back_way g.D.Watched c.carry_out.new.self.disk c.install.new.self.disk c.carry_out.new.self.core c.install.new.self.core
     c.carry_out.new.job c.carry_out.new.self.merging c.install.new.self.merging c.in-Err-install.fail
     c.in_default-carry_out.ensures.handed c.in-Err-install.ensures.handed c.in-Err-install.ensures.core
@@ -322,7 +322,7 @@ returns-in-Err-clause-removes g c h l is stands fits has removes =
     (ap (λ (v : Vec (SealedLog g.row.D-Held.Denot) Global). v.items) c.carry_out.ensures.logs
     ∙ ap (λ (k : Core g.row.D-Held.Denot). k.version.behind.logs.items) c.plan.ensures.core)
     (c.carry_out.ensures.collecting ∙ c.plan.ensures.collecting) has in
-    given_up_removing g.D.Watched bytes g.D.Writer.Writer c.args.self.now.disk c.carry_out.new.self.disk c.abandon.new.self.disk
+    abandoned_removing g.D.Watched bytes g.D.Writer.Writer c.args.self.now.disk c.carry_out.new.self.disk c.abandon.new.self.disk
     c.carry_out.new.self.core c.abandon.new.self.core c.carry_out.new.self.merging c.abandon.new.self.merging
     c.carry_out.new.self.collecting c.abandon.new.self.collecting c.carry_out.new.job c.carry_out.new.self.removing
     c.abandon.new.self.removing h l s collects made.removes makes.open_job makes.is_open c.carry_out.ensures.under_way
@@ -417,13 +417,13 @@ returns-in-Err-install-clause-removes g c h l is stands fits has removes =
     makes.open_job.job (made_of c.carry_out.new.job makes.open_job.job) _ name _ (c.in-Err-install.ensures.halted name halted)
     (is_halted c.carry_out.new.self.core h s.layout name s.stands.stands.fronts halted) (c.in-Err-install.ensures.unpinned name halted)
     c.carry_out.new.self.core made.removes carries.decides) in
-    not_put_in g.D.Watched bytes c.args.self.now.disk c.carry_out.new.self.disk c.install.new.self.disk c.given_up.new.self.disk
-    c.carry_out.new.self.core c.install.new.self.core c.given_up.new.self.core c.carry_out.new.self.merging c.install.new.self.merging
-    c.given_up.new.self.merging h l s (makes.running ∙ opened.alike) c.install.new.self.collecting c.given_up.new.self.collecting
-    c.install.new.self.removing c.given_up.new.self.removing c.carry_out.new.job makes.open_job makes.is_open
-    (made_of c.carry_out.new.job makes.open_job.job) _ c.install.new.self.there c.given_up.ensures.disk c.given_up.ensures.core
-    c.given_up.ensures.collecting c.in-Err-install.fail carries fitting collecting removing c.in-Err-install.ensures.handed
-    c.given_up.ensures.ended
+    not_put_in g.D.Watched bytes c.args.self.now.disk c.carry_out.new.self.disk c.install.new.self.disk c.abandoned.new.self.disk
+    c.carry_out.new.self.core c.install.new.self.core c.abandoned.new.self.core c.carry_out.new.self.merging c.install.new.self.merging
+    c.abandoned.new.self.merging h l s (makes.running ∙ opened.alike) c.install.new.self.collecting c.abandoned.new.self.collecting
+    c.install.new.self.removing c.abandoned.new.self.removing c.carry_out.new.job makes.open_job makes.is_open
+    (made_of c.carry_out.new.job makes.open_job.job) _ c.install.new.self.there c.abandoned.ensures.disk c.abandoned.ensures.core
+    c.abandoned.ensures.collecting c.in-Err-install.fail carries fitting collecting removing c.in-Err-install.ensures.handed
+    c.abandoned.ensures.ended
     (handed_back_way g.D.Watched c.carry_out.new.self.disk c.install.new.self.disk c.carry_out.new.self.core c.install.new.self.core
     c.carry_out.new.job c.carry_out.new.self.merging c.install.new.self.merging c.in-Err-install.fail c.in_default-carry_out.ensures.handed
     c.in-Err-install.ensures.handed c.in-Err-install.ensures.core c.in-Err-install.ensures.untouched)

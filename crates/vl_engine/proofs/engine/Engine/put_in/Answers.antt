@@ -128,28 +128,28 @@ invariant_of-self-in-Ok-write_install g c =
           (subst (λ ts. InstallsAll g.D.Watched g.D.Held.HeldFile.bytes g.D.Writer.Writer ts.items core.back.manifest.number
           ready.staged.edits.frame.items c.ready_install.new.disk c.write_install.new.disk ready.levels c.write_install.new.levels)
           c.into_parts-made.ensures.made wrote.writes) c.in-Ok-ready_install.ensures.no_change.told c.in-Ok-ready_install.ensures.elsewhere
-          core _ c.leave_files.new.stock c.switch.new.self.stock refl next
+          core _ c.abandon_files.new.stock c.switch.new.self.stock refl next
           (free_of g.D.Watched c.args.self.now.disk c.ready_install.new.disk c.in-Ok-ready_install.ensures.no_change.told
           c.args.job.made.items
           (may_take_all g.D.Watched g.D.Writer.Writer c.args.self.now.disk c.ready_install.new.disk core.back.state.next_table
           core.back.manifest.number c.args.job c.in-Ok-ready_install.ensures.no_change.told c.in-Ok-ready_install.ensures.elsewhere
           core.front.halted c.args.self.now.merging c.args.self.now.lent c.requires.handed c.requires.running).each)
           (off_left g.D.Watched c.args.self.now.disk c.args.self.now.core c.args.self.now.merging c.args.job c.requires.handed c.new.result
-          c.new.ensures.items c.make_room.new.self.stock c.leave_files.new.stock
-          (subst (λ ls. LeavesFiles (map left_of c.new.result.items ++ ls.items) c.make_room.new.self.stock c.leave_files.new.stock)
-          c.into_parts-made.ensures.leavings c.leave_files.ensures) made_room) c.in-Ok-make_room.ensures.readied.room.in_use
-          (c.leave_files.ensures.in_use ∙ c.in-Ok-make_room.ensures.readied.room.is_some)
+          c.new.ensures.items c.make_room.new.self.stock c.abandon_files.new.stock
+          (subst (λ ls. LeavesFiles (map left_of c.new.result.items ++ ls.items) c.make_room.new.self.stock c.abandon_files.new.stock)
+          c.into_parts-made.ensures.leavings c.abandon_files.ensures) made_room) c.in-Ok-make_room.ensures.readied.room.in_use
+          (c.abandon_files.ensures.in_use ∙ c.in-Ok-make_room.ensures.readied.room.is_some)
           c.apply_install.new.self.epoch c.deref-in-Ok-write_install-3.result.now
           (is_idle_log c.head_of-head.result c.args.live)
           (subst (λ ns. BecomesBy (switching c.apply_install.new.self.epoch ns c.deref-in-Ok-write_install-3.result.now
-          (is_idle_log c.head_of-head.result c.args.live)) c.leave_files.new.stock c.switch.new.self.stock)
+          (is_idle_log c.head_of-head.result c.args.live)) c.abandon_files.new.stock c.switch.new.self.stock)
           (c.deref-in-Ok-write_install-2.ensures.value ∙ c.in-Ok-made_numbers.ensures ∙ ap (map (λ t. t.number)) c.made.ensures)
           c.switch.ensures.switched)
           (there_others g.D.Watched c.args.self.now.disk c.args.self.now.core c.args.self.now.merging c.args.job c.requires.handed
           c.new.result
-          c.new.ensures.items c.make_room.new.self.stock c.leave_files.new.stock
-          (subst (λ ls. LeavesFiles (map left_of c.new.result.items ++ ls.items) c.make_room.new.self.stock c.leave_files.new.stock)
-          c.into_parts-made.ensures.leavings c.leave_files.ensures) running c.args.self.now.lent made_room);
+          c.new.ensures.items c.make_room.new.self.stock c.abandon_files.new.stock
+          (subst (λ ls. LeavesFiles (map left_of c.new.result.items ++ ls.items) c.make_room.new.self.stock c.abandon_files.new.stock)
+          c.into_parts-made.ensures.leavings c.abandon_files.ensures) running c.args.self.now.lent made_room);
     }
 
 pub returns-in-Ok-write_install-clause-as_installed : goal.returns-in-Ok-write_install-clause-as_installed
@@ -249,9 +249,9 @@ returns-in-Ok-write_install-clause-collected g c =
 pub switch-requires : goal.switch-requires
 switch-requires g c =
     room_put g.D.Watched c.args.self.now.disk c.args.self.now.core c.args.self.now.merging c.args.job c.requires.handed c.new.result
-    c.new.ensures.items c.make_room.new.self.stock c.leave_files.new.stock
-    (subst (λ ls. LeavesFiles (map left_of c.new.result.items ++ ls.items) c.make_room.new.self.stock c.leave_files.new.stock)
-    c.into_parts-made.ensures.leavings c.leave_files.ensures)
+    c.new.ensures.items c.make_room.new.self.stock c.abandon_files.new.stock
+    (subst (λ ls. LeavesFiles (map left_of c.new.result.items ++ ls.items) c.make_room.new.self.stock c.abandon_files.new.stock)
+    c.into_parts-made.ensures.leavings c.abandon_files.ensures)
     (length c.deref-in-Ok-write_install-2.result.now) c.lent_count-lent.result c.lent_count-lent.ensures
     (subst (λ n. HasRoom c.make_room.new.self.stock n 1 c.lent_count-lent.result)
     (let a = c.len.ensures in let b = c.in-Ok-made_numbers.added.ok.0 in
@@ -266,9 +266,9 @@ pub returns-in-Ok-write_install-clause-retires : goal.returns-in-Ok-write_instal
 returns-in-Ok-write_install-clause-retires g c = (
   c.switch.ensures.pins ∙ ap (λ (p : Pins). record p { merge = None }) c.make_room.ensures.pins,
   put_into g.D.Watched c.args.self.now.disk c.args.self.now.core c.args.self.now.merging c.args.job c.requires.handed c.new.result
-      c.new.ensures.items c.make_room.new.self.stock c.leave_files.new.stock
-      (subst (λ ls. LeavesFiles (map left_of c.new.result.items ++ ls.items) c.make_room.new.self.stock c.leave_files.new.stock)
-      c.into_parts-made.ensures.leavings c.leave_files.ensures)
+      c.new.ensures.items c.make_room.new.self.stock c.abandon_files.new.stock
+      (subst (λ ls. LeavesFiles (map left_of c.new.result.items ++ ls.items) c.make_room.new.self.stock c.abandon_files.new.stock)
+      c.into_parts-made.ensures.leavings c.abandon_files.ensures)
       c.args.self.now.core _ c.deref-in-Ok-write_install-2.result.now c.deref-in-Ok-write_install-3.result.now c.head_of-head.result
       c.apply_install.new.self.epoch c.len.result c.lent_count-lent.result c.args.live c.switch-in-Ok-write_install.new.self.tally
       c.args.self.now.removing.stock c.switch.new.self.stock

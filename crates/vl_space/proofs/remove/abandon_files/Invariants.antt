@@ -1,6 +1,6 @@
 use Rattle.std.proofs.Common.{◌++◌, map}
 use Rattle.vl_space.specs.Retiring.{LeavesFiles, left_of}
-use Rattle.vl_space.proofs.remove.leave_files.Given as goal
+use Rattle.vl_space.proofs.remove.abandon_files.Given as goal
 
 abbrev pub invariant-loop-table : goal.invariant-loop-table
 invariant-loop-table g l = LeavesFiles (map left_of l.yielded) l.initial.stock l.stock

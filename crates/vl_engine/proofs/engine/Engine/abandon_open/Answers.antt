@@ -3,7 +3,7 @@ use Rattle.vl_compact.specs.declared.files.Lent.{Lent}
 use Rattle.vl_engine.proofs.LeftRemoved.{there_left}
 use Rattle.vl_space.specs.Retiring.{LeavesFiles, left_of}
 use Rattle.vl_engine_laws.specs.declared.open.OpenMerge.{OpenMerge}
-use Rattle.vl_engine.proofs.engine.Engine.leave.Goals as goal
+use Rattle.vl_engine.proofs.engine.Engine.abandon_open.Goals as goal
 
 pub invariant_of-self : goal.invariant_of-self
 invariant_of-self g c = let was = c.args.self.now in
@@ -12,12 +12,12 @@ invariant_of-self g c = let was = c.args.self.now in
       numbered = was.numbered;
       lent = λ o some. absurd (never o some);
       known = was.known;
-      there = λ running. there_left g.D.Watched was.disk was.core was.merging c.args.job was.removing.stock c.leave_files.new.stock
+      there = λ running. there_left g.D.Watched was.disk was.core was.merging c.args.job was.removing.stock c.abandon_files.new.stock
           (was.there running) c.requires
           (subst (λ (files : List (Lent g.row.D-Writer.Denot g.D.Writer.Writer)). LeavesFiles files was.removing.stock
-          c.leave_files.new.stock) (λ i. map left_of (c.into_parts-made.ensures.made i).items ++
+          c.abandon_files.new.stock) (λ i. map left_of (c.into_parts-made.ensures.made i).items ++
           (c.into_parts-made.ensures.leavings i).items)
-          c.leave_files.ensures) running was.lent;
+          c.abandon_files.ensures) running was.lent;
     }
   where
     never : (o : OpenMerge) → None ≡ Some o → ⊥

@@ -4,7 +4,7 @@ use Rattle.std.proofs.lemmas.Iterator.Consumers.{YieldsList-end}
 use Rattle.vl_space.specs.laws.Retired.Changing.{leaves_more, leaves_none, map-both, map-same, nothing_behind, same_lent}
 use Rattle.vl_space.specs.Retiring.{LeavesFiles, left_of}
 use Rattle.vl_pins.specs.Files.{left_at}
-use Rattle.vl_space.proofs.remove.leave_files.Goals as goal
+use Rattle.vl_space.proofs.remove.abandon_files.Goals as goal
 
 pub loop-table-init : goal.loop-table-init
 loop-table-init g c = leaves_none c.args.stock.now

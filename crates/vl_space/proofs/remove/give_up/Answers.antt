@@ -1,9 +1,0 @@
-use Rattle.std.proofs.Common.{◌++◌, List, map, subst}
-use Rattle.vl_compact.specs.declared.files.Lent.{Lent}
-use Rattle.vl_space.specs.Retiring.{LeavesFiles, left_of}
-use Rattle.vl_space.proofs.remove.give_up.Goals as goal
-
-pub returns-clause-left : goal.returns-clause-left
-returns-clause-left g c =
-    subst (λ (files : List (Lent g.row.W.Denot g.W.Writer)). LeavesFiles files c.args.removing.now.stock c.leave_files.new.stock)
-    (λ i. map left_of (c.into_parts-made.ensures.made i).items ++ (c.into_parts-made.ensures.leavings i).items) c.leave_files.ensures
