@@ -28,7 +28,7 @@ use Rattle.vl_version.specs.declared.levels.look.Look.{Look}
 use Rattle.vl_version.specs.declared.levels.look.Look.TheVariants.{UpTo, Exactly}
 use Rattle.vl_version.specs.declared.levels.mark.Asked.{Asked}
 use Rattle.vl_version.specs.declared.version.Version.{Version}
-use Rattle.vl_version.proofs.mark.TellLaws.{asks_next, fails_so, says_too}
+use Rattle.vl_version.proofs.marking.TellLaws.{asks_next, fails_so, says_too}
 
 -- ---- marked entries
 

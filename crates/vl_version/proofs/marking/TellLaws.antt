@@ -29,7 +29,7 @@ use Rattle.vl_version.proofs.looking.LevelLaws.{level-parted}
 use Rattle.vl_version.proofs.looking.LookLaws.{better-none}
 use Rattle.vl_version.proofs.looking.Parts.{split_at}
 use Rattle.vl_version.proofs.looking.ReadsOfSome.{read_back, read_front}
-use Rattle.vl_version.proofs.mark.MarkLaws.{level_marked, or-none, parts_of}
+use Rattle.vl_version.proofs.marking.MarkLaws.{level_marked, or-none, parts_of}
 
 no_failure : (now : ℕ) → HasCause now now ⊥
 no_failure now = record { later = omega arith; rose = λ failed. absurd failed; steady = λ steady. refl }

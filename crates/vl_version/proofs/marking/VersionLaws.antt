@@ -30,8 +30,8 @@ use Rattle.vl_version.specs.declared.version.Version.{Version}
 use Rattle.vl_version.specs.levels.LevelsLooked.{AreInOrder, tables_of}
 use Rattle.vl_version.specs.levels.LookedUp.{LookedUp, NamesAsked}
 use Rattle.vl_version.specs.levels.Marks.{Tells}
-use Rattle.vl_version.proofs.mark.SourceLaws.{all-sources, first-sources, older-none, older-sources}
-use Rattle.vl_version.proofs.mark.TellLaws.{fails_so, names_fail, says_too}
+use Rattle.vl_version.proofs.marking.SourceLaws.{all-sources, first-sources, older-none, older-sources}
+use Rattle.vl_version.proofs.marking.TellLaws.{fails_so, names_fail, says_too}
 
 some-copied : (o : Option (Bor Entry)) → is_some o ≡ is_some (option_copied o)
 some-copied None = refl

@@ -1,4 +1,4 @@
-use Rattle.vl_version.proofs.mark.VersionLaws.{HasOlder, older_found, fails_by, fits_on, is_counted}
+use Rattle.vl_version.proofs.marking.VersionLaws.{HasOlder, older_found, fails_by, fits_on, is_counted}
 use Rattle.vl_version.proofs.base.BaseSources.older.Goals as goal
 
 pub returns-clause-found : goal.returns-clause-found

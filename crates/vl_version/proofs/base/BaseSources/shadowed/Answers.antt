@@ -1,4 +1,4 @@
-use Rattle.vl_version.proofs.mark.VersionLaws.{IsFirst, first_found, fails_by, fits_on, is_counted}
+use Rattle.vl_version.proofs.marking.VersionLaws.{IsFirst, first_found, fails_by, fits_on, is_counted}
 use Rattle.vl_version.proofs.base.BaseSources.shadowed.Goals as goal
 
 pub returns-clause-found : goal.returns-clause-found

@@ -5,7 +5,7 @@ use Rattle.vl_table.specs.declared.table.Table.{Table}
 use Rattle.vl_version.specs.levels.LevelTables.{AreAllApart, all_tables}
 use Rattle.vl_version.specs.levels.LevelsLooked.{AreInOrder}
 use Rattle.vl_version.specs.levels.Marks.{TellsFirst}
-use Rattle.vl_version.proofs.mark.TellLaws.{fails_before, finds_before, goes_on}
+use Rattle.vl_version.proofs.marking.TellLaws.{fails_before, finds_before, goes_on}
 use Rattle.vl_version.proofs.levels.Levels.first_mark.Goals as goal
 
 pub returns-in_err-input : goal.returns-in_err-input

@@ -3,7 +3,7 @@ use Rattle.std.proofs.Common.{◌∙◌, ap, refl}
 use Rattle.std.proofs.lemmas.Result.{err_from_is_err_and}
 use Rattle.vl_version.specs.declared.levels.look.Look.TheVariants.{UpTo}
 use Rattle.vl_version.specs.levels.LevelsLooked.{AreInOrder, tables_of}
-use Rattle.vl_version.proofs.mark.SourceLaws.{outside_failed, outside_told}
+use Rattle.vl_version.proofs.marking.SourceLaws.{outside_failed, outside_told}
 use Rattle.vl_version.proofs.levels.Levels.has_outside.Goals as goal
 
 pub returns-in_err-first : goal.returns-in_err-first

@@ -3,7 +3,7 @@ use Rattle.std.proofs.Common.{◌∙◌, ap, refl, sym}
 use Rattle.std.proofs.lemmas.Result.{err_from_is_err_and}
 use Rattle.vl_version.specs.declared.levels.look.Look.TheVariants.{Exactly}
 use Rattle.vl_version.specs.levels.LevelsLooked.{AreInOrder, tables_of}
-use Rattle.vl_version.proofs.mark.SourceLaws.{all_failed, all_told, ask_failed, mark_says, none_told}
+use Rattle.vl_version.proofs.marking.SourceLaws.{all_failed, all_told, ask_failed, mark_says, none_told}
 use Rattle.vl_version.proofs.levels.Levels.is_first_outside.Goals as goal
 
 pub returns-in_err-first_mark : goal.returns-in_err-first_mark

@@ -5,7 +5,7 @@ use Rattle.std.proofs.lemmas.Result.{err_from_is_err_and}
 use Rattle.vl_table.specs.declared.table.Table.{Table}
 use Rattle.vl_version.specs.levels.Marks.{TellsFirst}
 use Rattle.vl_version.proofs.looking.Parts.{split_at, take_next}
-use Rattle.vl_version.proofs.mark.TellLaws.{failed_there, found_there, none_asked, none_there}
+use Rattle.vl_version.proofs.marking.TellLaws.{failed_there, found_there, none_asked, none_there}
 use Rattle.vl_version.proofs.levels.mark.first_in_each.Goals as goal
 
 pub loop-table-init : goal.loop-table-init

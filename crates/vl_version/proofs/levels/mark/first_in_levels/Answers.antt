@@ -6,7 +6,7 @@ use Rattle.vl_table.specs.declared.table.Table.{Table}
 use Rattle.vl_version.specs.levels.LevelTables.{AreAllApart, AreApart, all_tables}
 use Rattle.vl_version.specs.levels.Marks.{TellsFirst}
 use Rattle.vl_version.proofs.looking.Parts.{all_get, tables-next, tables-split}
-use Rattle.vl_version.proofs.mark.TellLaws.{failed_there, found_there, none_asked, none_there}
+use Rattle.vl_version.proofs.marking.TellLaws.{failed_there, found_there, none_asked, none_there}
 use Rattle.vl_version.proofs.levels.mark.first_in_levels.Goals as goal
 
 pub loop-level-init : goal.loop-level-init

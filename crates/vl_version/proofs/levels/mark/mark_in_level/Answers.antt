@@ -1,5 +1,5 @@
 use Rattle.std.proofs.Common.{◌<◌, arith, length}
-use Rattle.vl_version.proofs.mark.TellLaws.{level_asked, level_past}
+use Rattle.vl_version.proofs.marking.TellLaws.{level_asked, level_past}
 use Rattle.vl_version.proofs.levels.mark.mark_in_level.Goals as goal
 
 pub returns-then-at-tables : goal.returns-then-at-tables

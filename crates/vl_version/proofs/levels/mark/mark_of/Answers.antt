@@ -4,7 +4,7 @@ use Rattle.std.proofs.Common.{◌∙◌, ap, sym}
 use Rattle.std.proofs.lemmas.Result.{err_from_is_err_and}
 use Rattle.vl_table.specs.body.Founds.{found_of}
 use Rattle.vl_version.specs.levels.Marks.{mark_if}
-use Rattle.vl_version.proofs.mark.TellLaws.{failed_in, looked_in, passed}
+use Rattle.vl_version.proofs.marking.TellLaws.{failed_in, looked_in, passed}
 use Rattle.vl_version.proofs.levels.mark.mark_of.Goals as goal
 
 pub returns-then-passes : goal.returns-then-passes

@@ -4,8 +4,8 @@ use Rattle.std.proofs.Common.{◌∙◌, ap, sym}
 use Rattle.std.proofs.lemmas.Result.{err_from_is_err_and}
 use Rattle.vl_table.specs.body.Founds.{found_of}
 use Rattle.vl_version.specs.declared.behind.Behind.{Behind}
-use Rattle.vl_version.proofs.mark.VersionLaws.{SourcesHave, TablesHave, held_first, held_told, memory_wanted}
-use Rattle.vl_version.proofs.mark.VersionLaws.{tables_failed, tables_first, tables_told}
+use Rattle.vl_version.proofs.marking.VersionLaws.{SourcesHave, TablesHave, held_first, held_told, memory_wanted}
+use Rattle.vl_version.proofs.marking.VersionLaws.{tables_failed, tables_first, tables_told}
 use Rattle.vl_version.proofs.version.Version.exact.Goals as goal
 
 pub returns-in-Some : goal.returns-in-Some

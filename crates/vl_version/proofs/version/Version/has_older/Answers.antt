@@ -2,7 +2,7 @@ use Rattle.std.specs.Prelude.{false, true}
 use Rattle.std.proofs.Common.{◌≡◌, ◌≤◌, ap, arith}
 use Rattle.std.proofs.lemmas.Bool.Decides.{nat_tests}
 use Rattle.vl_version.specs.declared.behind.Behind.{Behind}
-use Rattle.vl_version.proofs.mark.VersionLaws.{HasOlder, held_older, held_told, never_older, tables_older}
+use Rattle.vl_version.proofs.marking.VersionLaws.{HasOlder, held_older, held_told, never_older, tables_older}
 use Rattle.vl_version.proofs.version.Version.has_older.Goals as goal
 
 pub returns-then-version-eq0 : goal.returns-then-version-eq0

@@ -1,7 +1,7 @@
 use Rattle.std.specs.Prelude.{true}
 use Rattle.std.proofs.Common.{ap}
 use Rattle.vl_version.specs.declared.behind.Behind.{Behind}
-use Rattle.vl_version.proofs.mark.VersionLaws.{IsFirst, held_outside, held_told, tables_outside}
+use Rattle.vl_version.proofs.marking.VersionLaws.{IsFirst, held_outside, held_told, tables_outside}
 use Rattle.vl_version.proofs.version.Version.is_first_outside.Goals as goal
 
 pub returns-then-is_some : goal.returns-then-is_some
