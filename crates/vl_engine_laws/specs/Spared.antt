@@ -6,7 +6,7 @@ use Rattle.vl_engine_model.specs.declared.layout.Layout.{Layout}
 use Rattle.vl_model.specs.History.{History, last_number}
 use Rattle.vl_model.specs.Versions.{versions, versions_in}
 use Rattle.vl_model.specs.declared.entry.Entry.{Entry}
-use Rattle.vl_engine_model.specs.laws.LowStays.{AreSpared}
+use Rattle.vl_engine_model.specs.Spared.{AreSpared}
 
 -- What the entries have of each key's versions in the history is spared, where more than one version is kept: a version that
 -- isn't left is at most since, or is passed by so many that are left and are at most the floor. The least number at which a key

@@ -15,6 +15,7 @@ pub mod Rulings
 pub mod Shown
 pub mod Shows
 pub mod Sources
+pub mod Spared
 pub mod Start
 pub mod Stock
 pub mod Store

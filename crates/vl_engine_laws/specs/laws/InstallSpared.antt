@@ -14,7 +14,8 @@ use Rattle.vl_engine_model.specs.Merging.{Sourced, if_so, inputs_of, is_below, i
 use Rattle.vl_engine_model.specs.OpenJobs.{IsKeptFor, IsStillBehind, Preceded, preceded, preceded_if}
 use Rattle.vl_engine_model.specs.Shown.{Fits}
 use Rattle.vl_engine_model.specs.declared.job.Job.{Job}
-use Rattle.vl_engine_model.specs.laws.FromLow.{Passes, has-versions_in, next_above, outdated_passes}
+use Rattle.vl_engine_model.specs.Spared.{Passes}
+use Rattle.vl_engine_model.specs.laws.FromLow.{has-versions_in, next_above, outdated_passes}
 use Rattle.vl_engine_model_laws.specs.laws.Justified.{same_inputs}
 use Rattle.vl_engine_model_laws.specs.laws.Lists.{at_parts, or_cases, or_left, or_right, true_false}
 use Rattle.vl_engine_model_laws.specs.laws.OpenJobs.{drops_at, head_mark, marked_by, marks_now, rest_preceded}

@@ -9,7 +9,8 @@ use Rattle.vl_engine_model.specs.Marks.{kept_of, plain}
 use Rattle.vl_engine_model.specs.Merging.{Sourced, drops_by_need, if_so, inputs_of, is_needless, is_outdated, is_shadowed, needless, needless_from, outside_of}
 use Rattle.vl_engine_model.specs.OpenJobs.{IsKeptFor, IsStillBehind, Preceded, preceded, preceded_if}
 use Rattle.vl_engine_model.specs.declared.job.Job.{Job}
-use Rattle.vl_engine_model.specs.laws.FromLow.{Passes, has-versions_in, in_versions, next_above}
+use Rattle.vl_engine_model.specs.Spared.{Passes}
+use Rattle.vl_engine_model.specs.laws.FromLow.{has-versions_in, in_versions, next_above}
 use Rattle.vl_model.specs.Conflicts.{Named}
 use Rattle.vl_model.specs.Entries.{is_at}
 use Rattle.vl_model.specs.History.{History}

@@ -7,7 +7,8 @@ use Rattle.std.specs.Prelude.{Option, Some, None, nat_lt, ◌==◌}
 use Rattle.std.specs.List.{AllByRecursion, list_any}
 use Rattle.std.specs.Ordering.{eq_by_cmp}
 use Rattle.vl_engine_model.specs.Shown.{AreOf, IsOf}
-use Rattle.vl_engine_model.specs.laws.FromLow.{Passes, has-versions_in}
+use Rattle.vl_engine_model.specs.Spared.{Passes}
+use Rattle.vl_engine_model.specs.laws.FromLow.{has-versions_in}
 use Rattle.vl_model.specs.History.{Extends, History, last_number}
 use Rattle.vl_model.specs.Entries.{is_at}
 use Rattle.vl_model.specs.Keys.{key_cmp}

@@ -20,6 +20,7 @@ use Rattle.vl_model.specs.Versions.{versions_in}
 use Rattle.vl_engine_model.specs.Merging.{is_outdated}
 use Rattle.vl_engine_model.specs.laws.MergeShows.{picked, counts_parts}
 use Rattle.vl_engine_model.specs.Marks.{IsPast}
+use Rattle.vl_engine_model.specs.Spared.{Passes}
 
 -- a version stands among those of a key exactly where an entry of both does
 pub has-versions_in : (key : List ℕ) (version : ℕ) (es : List Entry)
@@ -39,11 +40,6 @@ pub in_versions : (key : List ℕ) (es : List Entry) (f : Entry) → key ≡ f.k
 in_versions key es f keys within =
     has-versions_in key f.version es
     ∙ within (is_at key f.version) (ap (λ k. is_at k f.version f) keys ∙ is_at-itself f)
-
--- it is passed by this number
-abbrev pub Passes : ℕ → Option ℕ → Type 0
-Passes m None = ⊥
-Passes m (Some w) = m < w
 
 passes_next : (numbers : List ℕ) (m n : ℕ) (o : Option ℕ) → m < n → has n numbers ≡ true → Passes n o → Passes m (next_below numbers o)
 passes_next numbers m n None less there p = absurd p

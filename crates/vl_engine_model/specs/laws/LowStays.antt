@@ -5,7 +5,7 @@ use Rattle.std.proofs.lemmas.Bool.Decides.{nat_tests}
 use Rattle.std.specs.Prelude.{min, Option, Some, None, is_some, ◌==◌}
 use Rattle.std.specs.List.{filter}
 use Rattle.std.specs.FinMap.{get}
-use Rattle.vl_engine_model.specs.laws.FromLow.{Passes}
+use Rattle.vl_engine_model.specs.Spared.{AreSpared, Passes}
 use Rattle.vl_model.specs.History.{Extends, History, last_number}
 use Rattle.vl_model.specs.Keys.{Writes}
 use Rattle.vl_model.specs.Numbers.{AreAmong, at_least, greatest_below, has, low_of, next_below, nth_below}
@@ -13,12 +13,6 @@ use Rattle.vl_model.specs.Versions.{Numbered, low, naming, numbered, versions}
 use Rattle.vl_model.specs.laws.NumberLaws as laws
 use Rattle.vl_model.specs.laws.NumberLaws.{AreRisen, IsFound, greatest-found, greatest-reaches, nth-fewer_than, nth-risen}
 use Rattle.vl_model.specs.laws.VersionLaws.{has-append, versions-extends_as, versions-stay}
-
--- Of all these versions up to a number, one that isn't left is at most since, or is passed by so many that are left and are at
--- most the floor.
-abbrev pub AreSpared : (all left : List ℕ) → (to floor keep since : ℕ) → Type 0
-AreSpared all left to floor keep since = (n : ℕ) → n ≤ to → has n all ≡ true → has n left ≡ false
-    → (n ≤ since) ⊎ Passes n (nth_below left (floor + 1) keep)
 
 true_false : true ≡ false → ⊥
 true_false is = cc
