@@ -1,15 +1,20 @@
 //! A session: the calls of an engine, each made under the lock.
 
-mod beginning;
-mod carrying;
-mod collecting;
-mod committing;
-mod finishing;
-mod looking;
-mod meeting;
-mod merging;
-mod stepping;
-mod sweeping;
+mod begin;
+mod collect;
+mod commit;
+mod end;
+mod finish;
+mod flush;
+mod fresh;
+mod install;
+mod meet;
+mod merge;
+mod number;
+mod plan;
+mod relocate;
+mod rotate;
+mod sweep;
 
 use crate::locked::Locked;
 use std::alloc::Global;

@@ -9,7 +9,7 @@ use Rattle.vlstore.specs.Standing.{parts}
 use Rattle.vlstore.proofs.Collecting.{collects_past, relocate_leaves, same_logs}
 use Rattle.vlstore.proofs.Faults.{move_unfailing}
 use Rattle.vlstore.proofs.Wholes.{whole_with}
-use Rattle.vlstore.proofs.session.collecting.move_now.Goals as goal
+use Rattle.vlstore.proofs.session.relocate.move_now.Goals as goal
 
 pub returns-in-Ok-clause-whole : goal.returns-in-Ok-clause-whole
 returns-in-Ok-clause-whole g c h l p w segment lasts there =

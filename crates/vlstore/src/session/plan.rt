@@ -1,36 +1,28 @@
-ghost use Rattle.std.specs.Prelude.{◌≡◌, true, IfOk, OnOk, Option, Some, is_some};
+ghost use Rattle.std.specs.Prelude.{◌≡◌, true, IfOk, Option, is_some};
 ghost use Rattle.std.specs.Option.{ForSome};
 ghost use Rattle.vl_compact.specs.Laid.{AreBoth};
-ghost use Rattle.vl_compact.specs.Progress.{HasRoom, IsNew, made_of};
-ghost use Rattle.vl_disk.specs.DiskState.{new_file};
-ghost use Rattle.vl_steps.specs.Drawing.{IsSameJob};
-ghost use Rattle.vl_steps.specs.Merging.{FitsReaders, HasMerge, fresh_outcome, install_outcome, plan_outcome};
+ghost use Rattle.vl_compact.specs.Progress.{IsNew, made_of};
+ghost use Rattle.vl_steps.specs.Merging.{FitsReaders, HasMerge, plan_outcome};
 ghost use Rattle.vl_engine_model.specs.Decides.{Answered};
 ghost use Rattle.vl_engine_model.specs.Rulings.Abandon.{abandon_ruling};
 ghost use Rattle.vl_engine_model.specs.Rulings.Drain.{drain_ruling};
-ghost use Rattle.vl_engine_model.specs.Rulings.Fresh.{fresh_ruling};
-ghost use Rattle.vl_engine_model.specs.Rulings.Install.{install_ruling};
 ghost use Rattle.vl_engine_model.specs.Rulings.Plan.{plan_ruling};
-ghost use Rattle.vl_engine_model.specs.Jobs.{Made, job_ended};
 ghost use Rattle.vl_engine_model.specs.declared.job.Job as laid_job;
-ghost use Rattle.vl_engine_model.specs.declared.layout.Layout.{Layout};
-ghost use Rattle.vl_engine_model.specs.declared.lock_history.LockStep.{LockStep};
-ghost use Rattle.vl_engine_model.specs.declared.lock_history.LockStep.TheVariants.{JobEnded};
-ghost use Rattle.vl_model.specs.History.{History};
-ghost use Rattle.vlstore.specs.Entries.{abandon_entry, done_by, fresh_done, fresh_entry, install_entry};
-ghost use Rattle.vlstore.specs.Entries.{plan_entry, planned_in};
-ghost use Rattle.vlstore.specs.Handing.{IsHandedInto, IsLentTo, IsUnderWayIn, job_back};
-ghost use Rattle.vlstore.specs.Knowing.{GoesOn, IsOwnJob, KeepsOwnMerge, Stepped};
+ghost use Rattle.vlstore.specs.Entries.{abandon_entry, plan_entry, planned_in};
+ghost use Rattle.vlstore.specs.Handing.{IsUnderWayIn};
+ghost use Rattle.vlstore.specs.Knowing.{GoesOn, IsOwnJob, KeepsOwnMerge, Looked, Stepped};
 ghost use Rattle.vlstore.specs.Standing.{NeverFails};
+ghost use Rattle.vl_table.specs.Kept.{Files};
+ghost use Rattle.vl_table.specs.KeptBlocks.{AreKept};
 
 use super::Session;
-use super::finishing::finish;
+use super::finish::finish;
 use std::marker::Brand;
 use std::snapshot::Snapshot;
 use std::sync::Wait;
-use vl_compact::{Job, Lent};
-use vl_disk::{Disk, HeldFile, NoMemory, Writer};
-use vl_engine::{InstallFail, StepFail};
+use vl_compact::{Job, JobReader};
+use vl_disk::{Disk, NoMemory};
+use vl_table::BlockReader;
 use vl_version::Base;
 
 impl<D: Disk> Session<D> {
@@ -99,39 +91,28 @@ impl<D: Disk> Session<D> {
         answer
     }
 
-    /// Makes the file of the next table of this session's merge, for which `ready` asks, and lends it to the
-    /// merge: `fill` takes it, beside the lock. Behind `Exhausted` (no table number is left) and `NoMemory` all
-    /// is as before. `Disk { name }` halts the store, with all commits; `Halted { name }`: it is halted. The
-    /// merge is to be abandoned then.
-    pub fn fresh<R: Wait>(
+    /// What a merge and a pass read with. It keeps no block yet. One reader serves a whole merge or pass.
+    /// `NoMemory`: try again.
+    pub fn reader<R: Wait>(
         &mut self,
         rt: &R,
-        job: &mut Job<Base<D::Held, D::Reader>, D::Held, D::Writer>,
-    ) -> Result<Lent<D::Writer>, StepFail>
-        requires { IsUnderWayIn self.old D.Writer.Writer D.Held.bytes job.old }
+    ) -> Result<JobReader<D::Reader, BlockReader<D::Reader>>, NoMemory>
         ensures on { GoesOn self.old self.new }
-        ensures steps { self.old.tells ≡ true
-            → Stepped (NeverFails D.faults D.Reader.faults D.Writer.faults) self.old self.new
-            fresh_ruling fresh_entry (fresh_outcome result) }
-        // The merge is as before, with room for one table more, and the file is lent to it, which is empty.
-        ensures job { IsSameJob job.old job.new }
-        ensures room { OnOk result (HasRoom job.new) }
-        ensures under_way { IsUnderWayIn self.new D.Writer.Writer D.Held.bytes job.new }
-        ensures lent { IfOk result (IsLentTo self.new D.Writer.Writer D.Held.bytes job.new) }
-        ensures empty { self.old.tells ≡ true → IfOk result (λ file. D.Writer.Writer.file file.writer ≡ Some new_file) }
+        ensures own { self.new.own ≡ self.old.own }
+        ensures looks { self.old.tells ≡ true → Looked self.old self.new (λ l h. Unit {0}) }
+        ensures blocks { (files : Files) → IfOk result (λ reader. AreKept files reader.looks) }
     {
         let lock = &*self.lock;
         let mut turn = lock.take(rt, &mut self.token);
         let locked = turn.value();
-        let answer = locked.engine.fresh(job);
-        let enters = has_drawn(&answer);
-        finish::<D, Brand, R, (), Result<Lent<D::Writer>, StepFail>>(
+        let answer = locked.engine.reader();
+        finish::<D, Brand, R, (), Result<JobReader<D::Reader, BlockReader<D::Reader>>, NoMemory>>(
             lock,
             rt,
             turn,
             &(),
             &answer,
-            enters,
+            false,
         );
         answer
     }
@@ -163,60 +144,6 @@ impl<D: Disk> Session<D> {
             true,
         );
     }
-}
-
-impl<D: Disk> Session<D> {
-    /// Puts the tables of a merge of this session, which has made all of them, into the place of its inputs,
-    /// and ends it. `NoMemory` hands it back, to be installed later or abandoned; all other answers end it.
-    /// `Raced`: a record was relocated meanwhile whose deletion the merge drops; plan again. `Exhausted`: no
-    /// epoch is left. `Disk { name }` halts the store, with all commits; `Halted { name }`: it is
-    /// halted.
-    pub fn install<R: Wait>(
-        &mut self,
-        rt: &R,
-        job: Job<Base<D::Held, D::Reader>, D::Held, D::Writer>,
-    ) -> Result<(), InstallFail<Base<D::Held, D::Reader>, D::Held, D::Writer>>
-        requires { IsHandedInto self.old D.Writer.Writer D.Held.bytes job }
-        ensures on { GoesOn self.old self.new }
-        ensures steps { self.old.tells ≡ true → (planned : laid_job.Job) → IsOwnJob self.old planned
-            → Stepped (NeverFails D.faults D.Reader.faults D.Writer.faults) self.old self.new
-            (λ l h. install_ruling l h planned (made_of job planned))
-            (install_entry planned (made_of job planned)) (install_outcome result) }
-        // It may be handed in again, or given up.
-        ensures back { ForSome (job_back result) (λ back. back ≡ job) }
-        ensures again { ForSome (job_back result) (IsHandedInto self.new D.Writer.Writer D.Held.bytes) }
-    {
-        let asked = Snapshot::of(&job);
-        let lock = &*self.lock;
-        let mut turn = lock.take(rt, &mut self.token);
-        let locked = turn.value();
-        let answer = locked.engine.install(job);
-        let enters = has_come(&answer);
-        finish::<
-            D,
-            Brand,
-            R,
-            Snapshot<Job<Base<D::Held, D::Reader>, D::Held, D::Writer>>,
-            Result<(), InstallFail<Base<D::Held, D::Reader>, D::Held, D::Writer>>,
-        >(lock, rt, turn, &asked, &answer, enters);
-        answer
-    }
-}
-
-// Whether the layout was changed.
-fn has_drawn<W: Writer>(answer: &Result<Lent<W>, StepFail>) -> bool
-    ensures { (l : Layout) (failed : LockStep × Layout)
-        → result ≡ is_some (done_by (fresh_done l) failed (fresh_outcome answer.now)) }
-{
-    matches!(answer, Ok(_) | Err(StepFail::Disk { .. }))
-}
-
-// Whether the merge has ended.
-fn has_come<V, H: HeldFile, W: Writer>(answer: &Result<(), InstallFail<V, H, W>>) -> bool
-    ensures { (job : laid_job.Job) (made : Made) (l : Layout) (h : History) → result ≡ is_some (done_by
-        (λ a. Some (JobEnded, (install_ruling l h job made).layout)) (JobEnded, job_ended made l) (install_outcome answer.now)) }
-{
-    !matches!(answer, Err(InstallFail::NoMemory(_)))
 }
 
 // Whether a merge was planned.

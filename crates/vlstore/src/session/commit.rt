@@ -16,7 +16,7 @@ ghost use Rattle.vlstore.specs.Knowing.{GoesOn, KeepsOwnMerge, Stepped, WhereTol
 ghost use Rattle.vlstore.specs.Standing.{NeverFails};
 
 use super::Session;
-use super::finishing::finish;
+use super::finish::finish;
 use std::marker::Brand;
 use std::snapshot::Snapshot;
 use std::sync::Wait;

@@ -8,7 +8,7 @@ ghost use Rattle.vlstore.specs.Knowing.{GoesOn, KeepsOwnMerge, Stepped};
 ghost use Rattle.vlstore.specs.Standing.{NeverFails};
 
 use super::Session;
-use super::finishing::finish;
+use super::finish::finish;
 use std::marker::Brand;
 use std::snapshot::Snapshot;
 use std::sync::Wait;

@@ -1,15 +1,14 @@
 ghost use Rattle.std.specs.Prelude.{◌≡◌, is_some, true};
 ghost use Rattle.vl_steps.specs.Stepping.{step_outcome};
-ghost use Rattle.vl_engine_model.specs.Rulings.Flush.{flush_ruling};
 ghost use Rattle.vl_engine_model.specs.Rulings.Rotate.{rotate_ruling};
 ghost use Rattle.vl_engine_model.specs.declared.layout.Layout.{Layout};
 ghost use Rattle.vl_engine_model.specs.declared.lock_history.LockStep.{LockStep};
-ghost use Rattle.vlstore.specs.Entries.{done_by, flush_entry, rotate_entry, step_done};
+ghost use Rattle.vlstore.specs.Entries.{done_by, rotate_entry, step_done};
 ghost use Rattle.vlstore.specs.Knowing.{GoesOn, KeepsOwnMerge, Stepped};
 ghost use Rattle.vlstore.specs.Standing.{NeverFails};
 
 use super::Session;
-use super::finishing::finish;
+use super::finish::finish;
 use std::marker::Brand;
 use std::sync::Wait;
 use vl_disk::Disk;
@@ -42,35 +41,10 @@ impl<D: Disk> Session<D> {
         );
         answer
     }
-
-    /// Writes what stands in the log that was sealed first, and wasn't flushed, to a table, and answers the
-    /// table's number; none where there is no such log. It is refused as `rotate` is.
-    pub fn flush<R: Wait>(&mut self, rt: &R) -> Result<Option<u32>, StepFail>
-        ensures on { GoesOn self.old self.new }
-        ensures merge { KeepsOwnMerge self.old self.new }
-        ensures steps { self.old.tells ≡ true
-            → Stepped (NeverFails D.faults D.Reader.faults D.Writer.faults) self.old self.new
-            flush_ruling flush_entry (step_outcome result) }
-    {
-        let lock = &*self.lock;
-        let mut turn = lock.take(rt, &mut self.token);
-        let locked = turn.value();
-        let answer = locked.engine.flush();
-        let enters = has_stepped(&answer);
-        finish::<D, Brand, R, (), Result<Option<u32>, StepFail>>(
-            lock,
-            rt,
-            turn,
-            &(),
-            &answer,
-            enters,
-        );
-        answer
-    }
 }
 
 // Whether the layout was changed.
-fn has_stepped(answer: &Result<Option<u32>, StepFail>) -> bool
+pub(super) fn has_stepped(answer: &Result<Option<u32>, StepFail>) -> bool
     ensures { (next : Layout) (failed : LockStep × Layout)
         → result ≡ is_some (done_by (step_done next) failed (step_outcome answer.now)) }
 {
