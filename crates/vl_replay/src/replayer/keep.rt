@@ -42,12 +42,12 @@ impl<D: Disk> Served<D> {
         ensures logs { self.new.engine.core.version.behind.logs ≡ self.old.engine.core.version.behind.logs }
         ensures untold { OnOk result (StaysUntold (D.told self.old.engine.disk) (D.told self.new.engine.disk)) }
     {
-        told_keep(self.engine.keep(versions))
+        keep_answer(self.engine.keep(versions))
     }
 }
 
 // How a change of how many versions are kept is answered.
-fn told_keep(kept: Result<(), KeepFail>) -> Result<Answer, Halt>
+fn keep_answer(kept: Result<(), KeepFail>) -> Result<Answer, Halt>
     ensures { result ≡ told_keep kept }
 {
     match kept {

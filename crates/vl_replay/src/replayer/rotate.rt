@@ -17,7 +17,7 @@ ghost use Rattle.vl_script_model.specs.Stored.{IsStopped, IsStored};
 ghost use Rattle.vl_script_model.specs.declared.fails.Halt.TheVariants as halts;
 
 use crate::replayer::Served;
-use crate::replayer::step::told;
+use crate::replayer::step::step_answer;
 use vl_disk::Disk;
 use vl_script::Answer;
 use vl_script_model::Halt;
@@ -44,6 +44,6 @@ impl<D: Disk> Served<D> {
             → OnOk result (RemovesIn self.new (step_by s.store (rotate_ruling s.store.layout (history_of s))).state) }
         ensures untold { OnOk result (StaysUntold (D.told self.old.engine.disk) (D.told self.new.engine.disk)) }
     {
-        told(self.engine.rotate())
+        step_answer(self.engine.rotate())
     }
 }

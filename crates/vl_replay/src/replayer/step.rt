@@ -7,7 +7,7 @@ use vl_script::Answer;
 use vl_script_model::Halt;
 
 // How a step on files is answered.
-pub(super) fn told(stepped: Result<Option<u32>, StepFail>) -> Result<Answer, Halt>
+pub(super) fn step_answer(stepped: Result<Option<u32>, StepFail>) -> Result<Answer, Halt>
     ensures { result ≡ told_step stepped }
 {
     match stepped {
