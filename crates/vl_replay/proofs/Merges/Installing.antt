@@ -326,19 +326,19 @@ install_named w bytes job j thing there has_all manifest before now name (at_tab
 install_named w bytes job j thing there has_all manifest before now name (at_manifest failed) =
     inr (at_each (λ (n : FileName). n ≡ Manifest manifest) (calls_on 2 (Manifest manifest)) before now name (refl, (refl, tt)) failed)
 
--- ---- what is told
+-- ---- how an install is answered
 
-abbrev pub told_install : {V H W : Type 0} {k : _} → Result (Unit {0}) (InstallFail V H W k) → Result Answer Halt
-told_install (Ok done) = Ok answers.Done
-told_install (Err (uninstalled.Halted file)) = Err (why.Read file)
-told_install (Err (uninstalled.Raced key number)) = Ok (answers.Raced key)
-told_install (Err (uninstalled.Exhausted counter)) = Ok (answers.Exhausted counter)
-told_install (Err (uninstalled.NoMemory job)) = Err why.NoMemory
-told_install (Err (uninstalled.Disk file)) = Err (why.Disk file)
+abbrev pub install_answer : {V H W : Type 0} {k : _} → Result (Unit {0}) (InstallFail V H W k) → Result Answer Halt
+install_answer (Ok done) = Ok answers.Done
+install_answer (Err (uninstalled.Halted file)) = Err (why.Read file)
+install_answer (Err (uninstalled.Raced key number)) = Ok (answers.Raced key)
+install_answer (Err (uninstalled.Exhausted counter)) = Ok (answers.Exhausted counter)
+install_answer (Err (uninstalled.NoMemory job)) = Err why.NoMemory
+install_answer (Err (uninstalled.Disk file)) = Err (why.Disk file)
 
 -- what every answer gives is so where a line is answered
 on_answered : {V H W : Type 0} {k : _} (P : Type 0) (result : Result (Unit {0}) (InstallFail V H W k))
-    → ((a : InstallAnswer) → install_outcome result ≡ Answered a → P) → OnOk (told_install result) P
+    → ((a : InstallAnswer) → install_outcome result ≡ Answered a → P) → OnOk (install_answer result) P
 on_answered P (Ok done) each = each rulings.Installed refl
 on_answered P (Err (uninstalled.Halted file)) each = tt
 on_answered P (Err (uninstalled.Raced key number)) each = each (rulings.Raced key number) refl
@@ -347,11 +347,11 @@ on_answered P (Err (uninstalled.NoMemory job)) each = tt
 on_answered P (Err (uninstalled.Disk file)) each = tt
 
 -- by the fail that it was
-pub told_as : {V H W : Type 0} {k : _} (result : Result (Unit {0}) (InstallFail V H W k)) (fail other : InstallFail V H W k)
+pub answer_as : {V H W : Type 0} {k : _} (result : Result (Unit {0}) (InstallFail V H W k)) (fail other : InstallFail V H W k)
     → result ≡ Err fail → fail ≡ other
-    → told_install result ≡ told_install (Err other)
-told_as result fail other is same =
-    ap (λ (x : Result (Unit {0}) (InstallFail _ _ _ _)). told_install x) is ∙ ap (λ (x : InstallFail _ _ _ _). told_install (Err x)) same
+    → install_answer result ≡ install_answer (Err other)
+answer_as result fail other is same =
+    ap (λ (x : Result (Unit {0}) (InstallFail _ _ _ _)). install_answer x) is ∙ ap (λ (x : InstallFail _ _ _ _). install_answer (Err x)) same
 
 -- ---- the line
 
@@ -460,7 +460,7 @@ module _ {D H R S W : Type 0} (g : Ghosts D) (w : Writers W) (bytes : H → Opti
 
   -- It is answered as the engine answers.
   pub install_makes : (result : Result (Unit {0}) (InstallFail (Base H R) H W k)) → DidInstall result
-      → MakesStep bytes (g.told new) after os s (step_to s (lines.Install name)) (told_install result)
+      → MakesStep bytes (g.told new) after os s (step_to s (lines.Install name)) (install_answer result)
   install_makes (Ok done) did = makes_so (Ok done) did rulings.Installed refl (λ failed. failed) answers.Done refl
   install_makes (Err (uninstalled.Halted file)) did = tt
   install_makes (Err (uninstalled.Raced key number)) did =
@@ -473,7 +473,7 @@ module _ {D H R S W : Type 0} (g : Ghosts D) (w : Writers W) (bytes : H → Opti
 
   -- An engine that stands for what isn't halted isn't halted.
   pub install_sound : (result : Result (Unit {0}) (InstallFail (Base H R) H W k)) → DidInstall result
-      → HaltsByRead (told_install result) → ⊥
+      → HaltsByRead (install_answer result) → ⊥
   install_sound (Ok done) did halts = halts
   install_sound (Err (uninstalled.Halted file)) did halts =
       let same = (did.decides.answered (rulings.Halted (engine.file_of file)) refl).0 in
@@ -505,7 +505,7 @@ module _ {D H R S W : Type 0} (g : Ghosts D) (w : Writers W) (bytes : H → Opti
 
   pub install_merges : (result : Result (Unit {0}) (InstallFail (Base H R) H W k)) → DidInstall result
       → let x = step_to s (lines.Install name) in
-      OnOk (told_install result) (Merges {H = H} {R = R} w bytes {g = k} merging None x.state.things x.state.layout)
+      OnOk (install_answer result) (Merges {H = H} {R = R} w bytes {g = k} merging None x.state.things x.state.layout)
   install_merges (Ok done) did = none_waits (Ok done) did rulings.Installed refl
   install_merges (Err (uninstalled.Halted file)) did = tt
   install_merges (Err (uninstalled.Raced key number)) did = none_waits (Err (uninstalled.Raced key number)) did
@@ -640,7 +640,7 @@ module _ {D H R S W : Type 0} (g : Ghosts D) (w : Writers W) (bytes : H → Opti
           }
 
     answered_of : (result : Result (Unit {0}) (InstallFail (Base H R) H W k)) → DidInstall result
-        → OnOk (told_install result) (HoldsState g IsStored behind new)
+        → OnOk (install_answer result) (HoldsState g IsStored behind new)
     answered_of (Ok done) did = holds_answered (Ok done) did rulings.Installed refl (λ failed. failed)
     answered_of (Err (uninstalled.Halted file)) did = tt
     answered_of (Err (uninstalled.Raced key number)) did =
@@ -651,7 +651,7 @@ module _ {D H R S W : Type 0} (g : Ghosts D) (w : Writers W) (bytes : H → Opti
     answered_of (Err (uninstalled.Disk file)) did = tt
 
     -- where memory ran out, nothing was changed
-    short_of : (result : Result (Unit {0}) (InstallFail (Base H R) H W k)) → DidInstall result → told_install result ≡ Err why.NoMemory
+    short_of : (result : Result (Unit {0}) (InstallFail (Base H R) H W k)) → DidInstall result → install_answer result ≡ Err why.NoMemory
         → HoldsCommits g IsStored s new
     short_of (Ok done) did out = absurd cc
     short_of (Err (uninstalled.Halted file)) did out = absurd cc
@@ -661,7 +661,7 @@ module _ {D H R S W : Type 0} (g : Ghosts D) (w : Writers W) (bytes : H → Opti
         (s, refl, refl, (held.there.0, (did.untouched tt).told ∙ held.there.1, held.there.2))
     short_of (Err (uninstalled.Disk file)) did out = absurd cc
 
-    failed_of : (result : Result (Unit {0}) (InstallFail (Base H R) H W k)) → HaltsByDisk (told_install result) → InstallFailed result
+    failed_of : (result : Result (Unit {0}) (InstallFail (Base H R) H W k)) → HaltsByDisk (install_answer result) → InstallFailed result
     failed_of (Ok done) halts = halts
     failed_of (Err (uninstalled.Halted file)) halts = halts
     failed_of (Err (uninstalled.Raced key number)) halts = halts
@@ -670,7 +670,7 @@ module _ {D H R S W : Type 0} (g : Ghosts D) (w : Writers W) (bytes : H → Opti
     failed_of (Err (uninstalled.Disk file)) halts = halts
 
     leads : (result : Result (Unit {0}) (InstallFail (Base H R) H W k)) → DidInstall result
-        → LeadsTo g IsStored Shown IsStopped old new s behind (told_install result)
+        → LeadsTo g IsStored Shown IsStopped old new s behind (install_answer result)
     leads result did = record {
       answered = answered_of result did;
       no_commit = short_of result did;
@@ -684,12 +684,12 @@ module _ {D H R S W : Type 0} (g : Ghosts D) (w : Writers W) (bytes : H → Opti
   -- An install is carried out so.
   pub install_carries : IsWatched g → (result : Result (Unit {0}) (InstallFail (Base H R) H W k)) → DidInstall result
       → (told : Result Answer Halt)
-      → told_install result ≡ told → (disk : D) → disk ≡ new
+      → install_answer result ≡ told → (disk : D) → disk ≡ new
       → CarriesOut g IsStored Shown IsStopped old disk s (state_after s (lines.Install name)) told
   install_carries watched result did told is disk same held =
       subst (λ (d : D). LeadsTo g IsStored Shown IsStopped old d s (state_after s (lines.Install name)) told) (sym same)
       (subst (λ (x : Result Answer Halt). LeadsTo g IsStored Shown IsStopped old new s (state_after s (lines.Install name)) x) is
-      (subst (λ (x : Step). LeadsTo g IsStored Shown IsStopped old new s (state_by s x) (told_install result)) (sym step_is)
+      (subst (λ (x : Step). LeadsTo g IsStored Shown IsStopped old new s (state_by s x) (install_answer result)) (sym step_is)
       (leads watched held result did)))
 
 -- ---- by what the engine says
@@ -877,41 +877,41 @@ module _ {D H R S W : Type 0} (g : Ghosts D) (w : Writers W) (bytes : H → Opti
       (handed_so g w old before.front.halted merging q planned planned' job was can) lent os s stands merges.opens name was.its_name
       own_name waited result says
 
-  pub line_makes : (told : Result Answer Halt) → told_install result ≡ told
+  pub line_makes : (told : Result Answer Halt) → install_answer result ≡ told
       → MakesStep bytes (g.told new) after os s (step_to s (lines.Install name)) told
   line_makes told is = subst (λ (x : Result Answer Halt). MakesStep bytes (g.told new) after os s (step_to s (lines.Install name)) x) is
       (install_makes g w bytes before after old new merging' os s stands name (waiting_as was.its_name job) own_name waited result did)
 
-  pub line_merges : (told : Result Answer Halt) → told_install result ≡ told
+  pub line_merges : (told : Result Answer Halt) → install_answer result ≡ told
       → let x = step_to s (lines.Install name) in OnOk told
       (Merges {H = H} {R = R} w bytes {g = k} merging' planned' x.state.things x.state.layout)
   line_merges told is =
       let x = step_to s (lines.Install name) in
       subst (λ (y : Result Answer Halt). OnOk y (Merges {H = H} {R = R} w bytes {g = k} merging' planned' x.state.things x.state.layout)) is
-      (subst (λ (p : Option (Planned (Base H R) H W k)). OnOk (told_install result)
+      (subst (λ (p : Option (Planned (Base H R) H W k)). OnOk (install_answer result)
       (Merges {H = H} {R = R} w bytes {g = k} merging' p x.state.things x.state.layout))
       (sym was.gone)
       (install_merges g w bytes before after old new merging' os s stands name (waiting_as was.its_name job) own_name waited result did))
 
-  pub line_sound : (told : Result Answer Halt) → told_install result ≡ told → HaltsByRead told → ⊥
+  pub line_sound : (told : Result Answer Halt) → install_answer result ≡ told → HaltsByRead told → ⊥
   line_sound told is halts =
       install_sound g w bytes before after old new merging' os s stands name (waiting_as was.its_name job) own_name waited result did
       (subst (λ (x : Result Answer Halt). HaltsByRead x) (sym is) halts)
 
-  pub line_carries : (told : Result Answer Halt) → told_install result ≡ told → (disk : D) → disk ≡ new
+  pub line_carries : (told : Result Answer Halt) → install_answer result ≡ told → (disk : D) → disk ≡ new
       → CarriesOut g IsStored Shown IsStopped old disk s (state_after s (lines.Install name)) told
   line_carries told is disk it =
       install_carries g w bytes before after old new merging' os s stands name (waiting_as was.its_name job) own_name waited watched
       result did told is disk it
 
-  pub line_named : (file : FileName) → told_install result ≡ Err (why.Disk file)
+  pub line_named : (file : FileName) → install_answer result ≡ Err (why.Disk file)
       → IsTableOf (thing_of s.store name) file ⊎ (file ≡ Manifest before.back.manifest.number)
   line_named file is =
       install_named w bytes job waited.open_job.job (thing_of s.store name)
       (there g w bytes before after old new merging' os s stands name (waiting_as was.its_name job) own_name waited)
       waited.has before.back.manifest.number _ _ file (says.stopped file (at_file result is))
     where
-      at_file : (x : Result (Unit {0}) (InstallFail (Base H R) H W k)) → told_install x ≡ Err (why.Disk file)
+      at_file : (x : Result (Unit {0}) (InstallFail (Base H R) H W k)) → install_answer x ≡ Err (why.Disk file)
           → x ≡ Err (uninstalled.Disk file)
       at_file (Ok done) e = absurd cc
       at_file (Err (uninstalled.Halted name)) e = absurd cc
@@ -926,7 +926,7 @@ module _ {D H R S W : Type 0} (g : Ghosts D) (w : Writers W) (bytes : H → Opti
       → AreLent o.lent (made_of job o.job) → was_so l
       → Decides (λ (_ : History) (m : Layout). is_so m) h l (install_ruling l h o.job (made_of job o.job))
       (install_otherwise l (made_of job o.job)) (install_outcome result) (install_effects result))
-      → was_so s.store.layout → (told : Result Answer Halt) → told_install result ≡ told
+      → was_so s.store.layout → (told : Result Answer Halt) → install_answer result ≡ told
       → OnOk told (is_so (step_to s (lines.Install name)).state.layout)
   line_leaves was_so is_so leaves so told is =
       subst (λ (x : Result Answer Halt). OnOk x (is_so (step_to s (lines.Install name)).state.layout)) is

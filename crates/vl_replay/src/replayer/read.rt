@@ -35,8 +35,8 @@ impl<D: Disk> Served<D> {
             return Ok(Answer::Unknown { name });
         };
         match &mut self.opens[at].thing {
-            Thing::View(view) => told(view.get(key.as_slice()), with_tag),
-            Thing::Transaction(txn) => told(txn.get(key.as_slice()), with_tag),
+            Thing::View(view) => read_answer(view.get(key.as_slice()), with_tag),
+            Thing::Transaction(txn) => read_answer(txn.get(key.as_slice()), with_tag),
         }
     }
 
@@ -55,8 +55,8 @@ impl<D: Disk> Served<D> {
             return Ok(Answer::Unknown { name });
         };
         match &mut self.opens[at].thing {
-            Thing::View(view) => told_past(view.get_at(key.as_slice(), number)),
-            Thing::Transaction(txn) => told_past(txn.get_at(key.as_slice(), number)),
+            Thing::View(view) => get_at_answer(view.get_at(key.as_slice(), number)),
+            Thing::Transaction(txn) => get_at_answer(txn.get_at(key.as_slice(), number)),
         }
     }
 
@@ -83,16 +83,18 @@ impl<D: Disk> Served<D> {
             return Ok(Answer::Unknown { name });
         };
         match &mut self.opens[at].thing {
-            Thing::View(view) => told_rows(view.scan(low.as_slice(), high.as_slice(), limit, way)),
+            Thing::View(view) => {
+                scan_answer(view.scan(low.as_slice(), high.as_slice(), limit, way))
+            }
             Thing::Transaction(txn) => {
-                told_rows(txn.scan(low.as_slice(), high.as_slice(), limit, way))
+                scan_answer(txn.scan(low.as_slice(), high.as_slice(), limit, way))
             }
         }
     }
 }
 
 // How a read of a key is answered.
-fn told(read: Result<Option<Value>, ReadFail>, with_tag: bool) -> Result<Answer, Halt>
+fn read_answer(read: Result<Option<Value>, ReadFail>, with_tag: bool) -> Result<Answer, Halt>
     ensures { result ≡ told_by (told_value with_tag) read }
 {
     match read {
@@ -110,7 +112,7 @@ fn told(read: Result<Option<Value>, ReadFail>, with_tag: bool) -> Result<Answer,
 }
 
 // How a scan is answered.
-fn told_rows(read: Result<Rows, ReadFail>) -> Result<Answer, Halt>
+fn scan_answer(read: Result<Rows, ReadFail>) -> Result<Answer, Halt>
     ensures { result ≡ told_by (λ rows. TheRows rows) read }
 {
     match read {
@@ -123,7 +125,7 @@ fn told_rows(read: Result<Rows, ReadFail>) -> Result<Answer, Halt>
 }
 
 // How a read at an older number is answered.
-fn told_past(read: Result<Option<Value>, AtFail>) -> Result<Answer, Halt>
+fn get_at_answer(read: Result<Option<Value>, AtFail>) -> Result<Answer, Halt>
     ensures { result ≡ told_past read }
 {
     match read {

@@ -1,106 +1,13 @@
-//! Rotations, flushes, and how many versions are kept.
-ghost use Rattle.std.specs.Prelude.{◌≡◌, ◌⊎◌, Err, OnOk};
-ghost use Rattle.vl_disk.specs.Faults.{HasCause};
-ghost use Rattle.vl_disk.specs.declared.name.Name.{Name};
-ghost use Rattle.vl_disk.specs.declared.name.Name.TheVariants as names;
-ghost use Rattle.vl_engine_laws.specs.Carries.{StaysUntold};
-ghost use Rattle.vl_engine_laws.specs.Shown.{Shown};
-ghost use Rattle.vl_space.specs.Collecting.{Collects};
-ghost use Rattle.vl_engine_model.specs.Rulings.Flush.{flush_ruling};
-ghost use Rattle.vl_engine_model.specs.Rulings.Keep.{keep_ruling};
-ghost use Rattle.vl_engine_model.specs.Rulings.Rotate.{rotate_ruling};
-ghost use Rattle.vl_engine_model.specs.Store.Dispatch.{keep_by, step_by};
-ghost use Rattle.vl_script_model.specs.Durable.{CarriesOut};
-ghost use Rattle.vl_script_model.specs.Halts.{HaltsByDisk, HaltsByRead};
-ghost use Rattle.vl_replay_laws.specs.Replaying.{MakesStep, state_by, state_by_step};
-ghost use Rattle.vl_replay.specs.Served.{RemovesIn, ServesFor, StandsRemoving};
-ghost use Rattle.vl_script_model.specs.Sequential.{State, history_of};
-ghost use Rattle.vl_replay_laws.specs.Standing.{told_keep, told_step};
-ghost use Rattle.vl_script_model.specs.Stored.{IsStopped, IsStored};
-ghost use Rattle.vl_script_model.specs.declared.fails.Halt.TheVariants as halts;
+//! How rotations and flushes are answered.
+ghost use Rattle.std.specs.Prelude.{◌≡◌};
+ghost use Rattle.vl_replay_laws.specs.Standing.{told_step};
 
-use crate::replayer::Served;
-use vl_disk::Disk;
-use vl_engine::{KeepFail, StepFail};
+use vl_engine::StepFail;
 use vl_script::Answer;
 use vl_script_model::Halt;
 
-impl<D: Disk> Served<D> {
-    /// Seals the log that takes commits and begins a new one, where something stands in it: a commit, or records that were moved.
-    pub(super) fn rotate(&mut self) -> Result<Answer, Halt>
-        ensures makes { (s : State) → ServesFor D.Watched D.Held.bytes self.old s
-            → MakesStep D.Held.bytes (D.told self.new.engine.disk) self.new.engine.core self.new.opens.items s
-            (step_by s.store (rotate_ruling s.store.layout (history_of s))) result }
-        ensures carries { (s : State) → ServesFor D.Watched D.Held.bytes self.old s
-            → CarriesOut D.Watched IsStored Shown IsStopped self.old.engine.disk self.new.engine.disk s
-            (state_by_step s (step_by s.store (rotate_ruling s.store.layout (history_of s)))) result }
-        ensures sound { (s : State) → ServesFor D.Watched D.Held.bytes self.old s → HaltsByRead result → ⊥ }
-        ensures cause { HasCause (D.faults self.old.engine.disk) (D.faults self.new.engine.disk) (HaltsByDisk result) }
-        ensures named { (s : State) (file : Name) → ServesFor D.Watched D.Held.bytes self.old s
-            → result ≡ Err (halts.Disk file)
-            → (file ≡ names.Log s.store.layout.active.number) ⊎ (file ≡ names.Log s.store.layout.next_log) }
-        ensures merging { self.new.engine.merging ≡ self.old.engine.merging }
-        ensures collects { (s : State) → ServesFor D.Watched D.Held.bytes self.old s
-            → Collects self.old.engine.core self.old.engine.collecting s.store.layout
-            → OnOk result (Collects self.new.engine.core self.new.engine.collecting (rotate_ruling s.store.layout (history_of s)).layout) }
-        ensures removes { (s : State) → StandsRemoving D.Watched D.Held.bytes self.old s
-            → OnOk result (RemovesIn self.new (step_by s.store (rotate_ruling s.store.layout (history_of s))).state) }
-        ensures untold { OnOk result (StaysUntold (D.told self.old.engine.disk) (D.told self.new.engine.disk)) }
-    {
-        told(self.engine.rotate())
-    }
-
-    /// Makes a table of the log that was sealed first of those that wait for it, where one does.
-    pub(super) fn flush(&mut self) -> Result<Answer, Halt>
-        ensures makes { (s : State) → ServesFor D.Watched D.Held.bytes self.old s
-            → MakesStep D.Held.bytes (D.told self.new.engine.disk) self.new.engine.core self.new.opens.items s
-            (step_by s.store (flush_ruling s.store.layout (history_of s))) result }
-        ensures carries { (s : State) → ServesFor D.Watched D.Held.bytes self.old s
-            → CarriesOut D.Watched IsStored Shown IsStopped self.old.engine.disk self.new.engine.disk s
-            (state_by_step s (step_by s.store (flush_ruling s.store.layout (history_of s)))) result }
-        ensures sound { (s : State) → ServesFor D.Watched D.Held.bytes self.old s → HaltsByRead result → ⊥ }
-        ensures cause { HasCause (D.faults self.old.engine.disk) (D.faults self.new.engine.disk) (HaltsByDisk result) }
-        ensures named { (s : State) (file : Name) → ServesFor D.Watched D.Held.bytes self.old s
-            → result ≡ Err (halts.Disk file)
-            → (file ≡ names.Table s.store.layout.next_table)
-            ⊎ (file ≡ names.Manifest self.old.engine.core.back.manifest.number) }
-        ensures merging { self.new.engine.merging ≡ self.old.engine.merging }
-        ensures collects { (s : State) → ServesFor D.Watched D.Held.bytes self.old s
-            → Collects self.old.engine.core self.old.engine.collecting s.store.layout
-            → OnOk result (Collects self.new.engine.core self.new.engine.collecting (flush_ruling s.store.layout (history_of s)).layout) }
-        ensures removes { (s : State) → StandsRemoving D.Watched D.Held.bytes self.old s
-            → Collects self.old.engine.core self.old.engine.collecting s.store.layout
-            → OnOk result (RemovesIn self.new (step_by s.store (flush_ruling s.store.layout (history_of s))).state) }
-        ensures untold { OnOk result (StaysUntold (D.told self.old.engine.disk) (D.told self.new.engine.disk)) }
-    {
-        told(self.engine.flush())
-    }
-
-    /// Has merges keep so many of the newest versions of a key.
-    pub(super) fn keep(&mut self, versions: u8) -> Result<Answer, Halt>
-        ensures makes { (s : State) → ServesFor D.Watched D.Held.bytes self.old s
-            → MakesStep D.Held.bytes (D.told self.new.engine.disk) self.new.engine.core self.new.opens.items s
-            (keep_by s.store (keep_ruling s.store.layout (history_of s) versions)) result }
-        ensures carries { (s : State) → ServesFor D.Watched D.Held.bytes self.old s
-            → CarriesOut D.Watched IsStored Shown IsStopped self.old.engine.disk self.new.engine.disk s
-            (state_by s (keep_by s.store (keep_ruling s.store.layout (history_of s) versions))) result }
-        ensures sound { (s : State) → ServesFor D.Watched D.Held.bytes self.old s → HaltsByRead result → ⊥ }
-        ensures cause { HasCause (D.faults self.old.engine.disk) (D.faults self.new.engine.disk) (HaltsByDisk result) }
-        ensures named { (file : Name) → result ≡ Err (halts.Disk file)
-            → file ≡ names.Manifest self.old.engine.core.back.manifest.number }
-        ensures merging { self.new.engine.merging ≡ self.old.engine.merging }
-        ensures removes { (s : State) → ServesFor D.Watched D.Held.bytes self.old s → RemovesIn self.old s.store
-            → OnOk result (RemovesIn self.new (keep_by s.store (keep_ruling s.store.layout (history_of s) versions)).state) }
-        ensures collecting { self.new.engine.collecting ≡ self.old.engine.collecting }
-        ensures logs { self.new.engine.core.version.behind.logs ≡ self.old.engine.core.version.behind.logs }
-        ensures untold { OnOk result (StaysUntold (D.told self.old.engine.disk) (D.told self.new.engine.disk)) }
-    {
-        told_keep(self.engine.keep(versions))
-    }
-}
-
 // How a step on files is answered.
-fn told(stepped: Result<Option<u32>, StepFail>) -> Result<Answer, Halt>
+pub(super) fn step_answer(stepped: Result<Option<u32>, StepFail>) -> Result<Answer, Halt>
     ensures { result ≡ told_step stepped }
 {
     match stepped {
@@ -113,19 +20,5 @@ fn told(stepped: Result<Option<u32>, StepFail>) -> Result<Answer, Halt>
         Err(StepFail::Disk { name }) => Err(Halt::Disk { name }),
         // An engine that is halted already: a replayer stops at the first fault, and comes never here.
         Err(StepFail::Halted { name }) => Err(Halt::Read { name }),
-    }
-}
-
-// How a change of how many versions are kept is answered.
-fn told_keep(kept: Result<(), KeepFail>) -> Result<Answer, Halt>
-    ensures { result ≡ told_keep kept }
-{
-    match kept {
-        Ok(()) => Ok(Answer::Done),
-        Err(KeepFail::InvalidRequest) => Ok(Answer::Invalid),
-        Err(KeepFail::NoMemory) => Err(Halt::NoMemory),
-        Err(KeepFail::Disk { name }) => Err(Halt::Disk { name }),
-        // An engine that is halted already: a replayer stops at the first fault, and comes never here.
-        Err(KeepFail::Halted { name }) => Err(Halt::Read { name }),
     }
 }

@@ -45,12 +45,12 @@ impl<D: Disk> Served<D> {
         ensures merging { self.new.engine.merging ≡ self.old.engine.merging }
         ensures untold { OnOk result (StaysUntold (D.told self.old.engine.disk) (D.told self.new.engine.disk)) }
     {
-        told(self.engine.sweep())
+        sweep_answer(self.engine.sweep())
     }
 }
 
 // How a sweep is answered.
-fn told(swept: Result<u64, SweepFail>) -> Result<Answer, Halt>
+fn sweep_answer(swept: Result<u64, SweepFail>) -> Result<Answer, Halt>
     ensures { result ≡ told_sweep swept }
 {
     match swept {

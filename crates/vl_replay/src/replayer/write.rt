@@ -39,7 +39,7 @@ impl<D: Disk> Served<D> {
         };
         match &mut self.opens[at].thing {
             Thing::View(_) => Ok(Answer::ReadOnly),
-            Thing::Transaction(txn) => told(change(txn, &key, value)),
+            Thing::Transaction(txn) => write_answer(change(txn, &key, value)),
         }
     }
 }
@@ -61,7 +61,7 @@ fn change<H: HeldFile, R: Reader<Held = H> + Drop>(
 }
 
 // How a write is answered.
-fn told(written: Result<(), SetFail>) -> Result<Answer, Halt>
+fn write_answer(written: Result<(), SetFail>) -> Result<Answer, Halt>
     ensures { result ≡ told_write written }
 {
     match written {

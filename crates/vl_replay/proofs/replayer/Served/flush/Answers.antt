@@ -38,7 +38,7 @@ returns-clause-makes g c s stands =
     (c.flush.ensures.stands fits.state h l fits.told_is stands.engine (λ running. (fits.numbers, fits.files)))
     (c.flush.ensures.fits h l stands.engine stands.fits)
     (λ openable. (c.flush.ensures.carries h l (represents bytes seen core os s stands openable)).decides) in
-    subst (λ (x : Result Answer Halt). MakesStep bytes now then os s (step_by s.store (flush_ruling l h)) x) (sym c.told.ensures)
+    subst (λ (x : Result Answer Halt). MakesStep bytes now then os s (step_by s.store (flush_ruling l h)) x) (sym c.step_answer.ensures)
     (step_makes bytes seen now core then os s stands (flush_ruling l h) (flush_leaves l h)
     (state_after-sound s lines.Flush stands.sound) _ _ c.flush.result decides (λ fine. c.flush.ensures.within fine stands.within))
 
@@ -59,15 +59,15 @@ returns-clause-sound g c s stands halts =
     (λ openable. (c.flush.ensures.carries h l (represents bytes seen core os s stands openable)).decides) in
     step_sound bytes seen now core then os s stands (flush_ruling l h) (flush_leaves l h)
     (state_after-sound s lines.Flush stands.sound) _ _ c.flush.result decides
-    (subst (λ (x : Result Answer Halt). HaltsByRead x) c.told.ensures halts)
+    (subst (λ (x : Result Answer Halt). HaltsByRead x) c.step_answer.ensures halts)
 
 pub returns-clause-cause : goal.returns-clause-cause
-returns-clause-cause g c = step_cause c.flush.result c.told.result c.told.ensures _ _ c.flush.ensures.cause
+returns-clause-cause g c = step_cause c.flush.result c.step_answer.result c.step_answer.ensures _ _ c.flush.ensures.cause
 
 pub returns-clause-named : goal.returns-clause-named
 returns-clause-named g c s file stands is =
     let fits = stands.fits.running stands.running in
-    let either = flush_named _ _ _ _ file (c.flush.ensures.stopped file (halted_at c.flush.result file (sym c.told.ensures ∙ is))) in
+    let either = flush_named _ _ _ _ file (c.flush.ensures.stopped file (halted_at c.flush.result file (sym c.step_answer.ensures ∙ is))) in
     subst (λ (n : ℕ). (file ≡ names.Table n) ⊎ (file ≡ names.Manifest c.args.self.now.engine.core.back.manifest.number))
     fits.numbers.next_table either
 
@@ -120,7 +120,7 @@ returns-clause-carries g c s stands =
                 (c.flush.ensures.meanwhile failed).0 (c.flush.ensures.meanwhile failed).1 state told;
           };
     })
-    c.told.result c.told.ensures
+    c.step_answer.result c.step_answer.ensures
 
 pub returns-clause-collects : goal.returns-clause-collects
 returns-clause-collects g c s stands collects =
@@ -128,7 +128,7 @@ returns-clause-collects g c s stands collects =
     let h = history_of s in
     let l = s.store.layout in
     let fits = stands.fits.running stands.running in
-    subst (λ (x : Result Answer Halt). OnOk x (Collects new.core new.collecting (flush_ruling l h).layout)) (sym c.told.ensures)
+    subst (λ (x : Result Answer Halt). OnOk x (Collects new.core new.collecting (flush_ruling l h).layout)) (sym c.step_answer.ensures)
     (step_leaves (λ _ m. Collects new.core new.collecting m) h l (flush_ruling l h) _ _ c.flush.result
     (c.flush.ensures.collects fits.state h l fits.told_is stands.engine (λ running. (fits.numbers, fits.files)) collects))
 
@@ -138,7 +138,7 @@ returns-clause-removes g c s stands collects =
     let h = history_of s in
     let l = s.store.layout in
     let fits = stands.serves.fits.running stands.serves.running in
-    subst (λ (x : Result Answer Halt). OnOk x (Removes new.core new.removing (flush_ruling l h).layout)) (sym c.told.ensures)
+    subst (λ (x : Result Answer Halt). OnOk x (Removes new.core new.removing (flush_ruling l h).layout)) (sym c.step_answer.ensures)
     (step_leaves (λ _ m. Removes new.core new.removing m) h l (flush_ruling l h) _ _ c.flush.result
     (c.flush.ensures.removes fits.state h l fits.told_is stands.serves.engine stands.opens (λ running. (fits.numbers, fits.files))
     collects

@@ -37,9 +37,9 @@ returns-in-View-clause-makes g c s stands =
     in_place bytes seen core os s stands c.deref.result.now c.deref.ensures.value c.as_slice.result.now c.args.name c.as_slice.ensures
     c.in-Some.at (sym c.place.ensures ∙ c.in-Some.is) c.index_mut.result.now c.index_mut.ensures.value (View c.get_at.new.self)
     (get_at_by s.store c.args.name c.as_slice-in-View.result.now c.args.number (thing_of s.store c.args.name))
-    (get_at_by s.store c.args.name c.args.key c.args.number (thing_of s.store c.args.name)) _ c.told_past.result
+    (get_at_by s.store c.args.name c.args.key c.args.number (thing_of s.store c.args.name)) _ c.get_at_answer.result
     (ap (λ (k : List ℕ). get_at_by s.store c.args.name k c.args.number (thing_of s.store c.args.name))
-    c.as_slice-in-View.ensures) c.told_past.ensures
+    c.as_slice-in-View.ensures) c.get_at_answer.ensures
     (view_past_makes bytes seen core os s stands (without_open c.args.name os) c.args.name c.as_slice-in-View.result.now c.args.number
     c.in-View.view c.get_at.new.self taken c.get_at.ensures.keeps c.get_at.ensures.still c.get_at.result c.get_at.ensures.answer)
 
@@ -54,7 +54,7 @@ returns-in-View-clause-near g c s stands untabled =
     c.in-Some.at (sym c.place.ensures ∙ c.in-Some.is) c.index_mut.result.now c.index_mut.ensures.value _ c.in-View.is in
     let (b, there, sees, live, near, began) = its bytes seen core os s stands (without_open c.args.name os) c.args.name
     c.in-View.view taken in
-    past_sound _ c.get_at.result c.told_past.result c.told_past.ensures (c.get_at.ensures.answer (history_of s) sees)
+    past_sound _ c.get_at.result c.get_at_answer.result c.get_at_answer.ensures (c.get_at.ensures.answer (history_of s) sees)
     (c.get_at.ensures.near (near (reads_none c.in-View.view.ticket s.store.layout untabled)))
 
 pub returns-in-View-clause-undamaged : goal.returns-in-View-clause-undamaged
@@ -68,11 +68,11 @@ returns-in-View-clause-undamaged g c s stands =
     c.in-Some.at (sym c.place.ensures ∙ c.in-Some.is) c.index_mut.result.now c.index_mut.ensures.value _ c.in-View.is in
     let (b, there, sees, live, near, began) = its bytes seen core os s stands (without_open c.args.name os) c.args.name
     c.in-View.view taken in
-    past_undamaged _ c.get_at.result c.told_past.result c.told_past.ensures (c.get_at.ensures.answer (history_of s) sees)
+    past_undamaged _ c.get_at.result c.get_at_answer.result c.get_at_answer.ensures (c.get_at.ensures.answer (history_of s) sees)
 
 pub returns-in-View-clause-fault : goal.returns-in-View-clause-fault
 returns-in-View-clause-fault g c =
-    past_counted c.get_at.result c.told_past.result c.told_past.ensures g.D.Reader.Reader.faults _ _ c.get_at.ensures.cause
+    past_counted c.get_at.result c.get_at_answer.result c.get_at_answer.ensures g.D.Reader.Reader.faults _ _ c.get_at.ensures.cause
 
 pub returns-clause-makes : goal.returns-clause-makes
 returns-clause-makes g c s stands =
@@ -87,9 +87,9 @@ returns-clause-makes g c s stands =
     c.in-Some.at (sym c.place.ensures ∙ c.in-Some.is) c.index_mut.result.now c.index_mut.ensures.value (Transaction
     c.get_at-in-Transaction.new.self)
     (get_at_by s.store c.args.name c.as_slice-in-Transaction.result.now c.args.number (thing_of s.store c.args.name))
-    (get_at_by s.store c.args.name c.args.key c.args.number (thing_of s.store c.args.name)) _ c.told_past-in-Transaction.result
+    (get_at_by s.store c.args.name c.args.key c.args.number (thing_of s.store c.args.name)) _ c.get_at_answer-in-Transaction.result
     (ap (λ (k : List ℕ). get_at_by s.store c.args.name k c.args.number (thing_of s.store c.args.name))
-    c.as_slice-in-Transaction.ensures) c.told_past-in-Transaction.ensures
+    c.as_slice-in-Transaction.ensures) c.get_at_answer-in-Transaction.ensures
     (txn_past_makes bytes seen core os s stands (without_open c.args.name os) c.args.name c.as_slice-in-Transaction.result.now c.args.number
     c.in-Transaction.txn c.get_at-in-Transaction.new.self taken c.get_at-in-Transaction.ensures.kept c.get_at-in-Transaction.ensures.still
     c.get_at-in-Transaction.result c.get_at-in-Transaction.ensures.answer)
@@ -105,7 +105,7 @@ returns-clause-near g c s stands untabled =
     c.in-Some.at (sym c.place.ensures ∙ c.in-Some.is) c.index_mut.result.now c.index_mut.ensures.value _ c.in-Transaction.is in
     let (t, b, there, is, began) = itself bytes seen core os s stands (without_open c.args.name os) c.args.name
     c.in-Transaction.txn taken in
-    past_sound _ c.get_at-in-Transaction.result c.told_past-in-Transaction.result c.told_past-in-Transaction.ensures
+    past_sound _ c.get_at-in-Transaction.result c.get_at_answer-in-Transaction.result c.get_at_answer-in-Transaction.ensures
     (c.get_at-in-Transaction.ensures.answer (history_of s) t.reads is.sees)
     (c.get_at-in-Transaction.ensures.near (is.near (reads_none c.in-Transaction.txn.ticket s.store.layout untabled)))
 
@@ -120,17 +120,17 @@ returns-clause-undamaged g c s stands =
     c.in-Some.at (sym c.place.ensures ∙ c.in-Some.is) c.index_mut.result.now c.index_mut.ensures.value _ c.in-Transaction.is in
     let (t, b, there, is, began) = itself bytes seen core os s stands (without_open c.args.name os) c.args.name
     c.in-Transaction.txn taken in
-    past_undamaged _ c.get_at-in-Transaction.result c.told_past-in-Transaction.result c.told_past-in-Transaction.ensures
+    past_undamaged _ c.get_at-in-Transaction.result c.get_at_answer-in-Transaction.result c.get_at_answer-in-Transaction.ensures
     (c.get_at-in-Transaction.ensures.answer (history_of s) t.reads is.sees)
 
 pub returns-clause-fault : goal.returns-clause-fault
 returns-clause-fault g c =
-    past_counted c.get_at-in-Transaction.result c.told_past-in-Transaction.result c.told_past-in-Transaction.ensures
+    past_counted c.get_at-in-Transaction.result c.get_at_answer-in-Transaction.result c.get_at_answer-in-Transaction.ensures
     g.D.Reader.Reader.faults _ _ c.get_at-in-Transaction.ensures.cause
 
 pub returns-in-View-clause-not_the_disk : goal.returns-in-View-clause-not_the_disk
-returns-in-View-clause-not_the_disk g c = past_not_by_disk c.get_at.result c.told_past.result c.told_past.ensures
+returns-in-View-clause-not_the_disk g c = past_not_by_disk c.get_at.result c.get_at_answer.result c.get_at_answer.ensures
 
 pub returns-clause-not_the_disk : goal.returns-clause-not_the_disk
 returns-clause-not_the_disk g c =
-    past_not_by_disk c.get_at-in-Transaction.result c.told_past-in-Transaction.result c.told_past-in-Transaction.ensures
+    past_not_by_disk c.get_at-in-Transaction.result c.get_at_answer-in-Transaction.result c.get_at_answer-in-Transaction.ensures

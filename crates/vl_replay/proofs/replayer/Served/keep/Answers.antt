@@ -35,7 +35,7 @@ returns-clause-makes g c s stands =
     (c.keep.ensures.stands h l stands.engine)
     (c.keep.ensures.fits h l stands.engine stands.fits)
     (λ openable. (c.keep.ensures.carries h l (represents bytes seen core os s stands openable)).decides) in
-    subst (λ (x : Result Answer Halt). MakesStep bytes now then os s (keep_by s.store (keep_ruling l h v)) x) (sym c.told_keep.ensures)
+    subst (λ (x : Result Answer Halt). MakesStep bytes now then os s (keep_by s.store (keep_ruling l h v)) x) (sym c.keep_answer.ensures)
     (keep_makes bytes seen now core then os s stands (keep_ruling l h v) (keep_keeps l h v)
     (state_after-sound s (lines.Keep v) stands.sound) _ _ c.keep.result decides (λ fine. c.keep.ensures.within fine stands.within))
 
@@ -56,14 +56,14 @@ returns-clause-sound g c s stands halts =
     (λ openable. (c.keep.ensures.carries h l (represents bytes seen core os s stands openable)).decides) in
     keep_sound bytes seen now core then os s stands (keep_ruling l h v) (keep_keeps l h v)
     (state_after-sound s (lines.Keep v) stands.sound) _ _ c.keep.result decides
-    (subst (λ (x : Result Answer Halt). HaltsByRead x) c.told_keep.ensures halts)
+    (subst (λ (x : Result Answer Halt). HaltsByRead x) c.keep_answer.ensures halts)
 
 pub returns-clause-cause : goal.returns-clause-cause
-returns-clause-cause g c = keep_cause c.keep.result c.told_keep.result c.told_keep.ensures _ _ c.keep.ensures.cause
+returns-clause-cause g c = keep_cause c.keep.result c.keep_answer.result c.keep_answer.ensures _ _ c.keep.ensures.cause
 
 pub returns-clause-named : goal.returns-clause-named
 returns-clause-named g c file is =
-    keep_named _ _ _ file (c.keep.ensures.stopped file (keep_halted_at c.keep.result file (sym c.told_keep.ensures ∙ is)))
+    keep_named _ _ _ file (c.keep.ensures.stopped file (keep_halted_at c.keep.result file (sym c.keep_answer.ensures ∙ is)))
 
 pub returns-clause-carries : goal.returns-clause-carries
 returns-clause-carries g c s stands =
@@ -107,7 +107,7 @@ returns-clause-carries g c s stands =
                 (c.keep.ensures.meanwhile failed).0 (c.keep.ensures.meanwhile failed).1 state told;
           };
     })
-    c.told_keep.result c.told_keep.ensures
+    c.keep_answer.result c.keep_answer.ensures
 
 pub returns-clause-removes : goal.returns-clause-removes
 returns-clause-removes g c s stands removes =
@@ -115,6 +115,6 @@ returns-clause-removes g c s stands removes =
     let h = history_of s in
     let l = s.store.layout in
     let v = c.args.versions in
-    subst (λ (x : Result Answer Halt). OnOk x (Removes new.core new.removing (keep_ruling l h v).layout)) (sym c.told_keep.ensures)
+    subst (λ (x : Result Answer Halt). OnOk x (Removes new.core new.removing (keep_ruling l h v).layout)) (sym c.keep_answer.ensures)
     (keep_leaves (λ _ m. Removes new.core new.removing m) h l (keep_ruling l h v) _ _ c.keep.result
     (c.keep.ensures.removes h l stands.engine.fronts removes))

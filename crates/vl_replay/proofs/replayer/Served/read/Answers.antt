@@ -38,9 +38,9 @@ returns-in-View-clause-makes g c s stands =
     in_place bytes seen core os s stands c.deref.result.now c.deref.ensures.value c.as_slice.result.now c.args.name c.as_slice.ensures
     c.in-Some.at (sym c.place.ensures ∙ c.in-Some.is) c.index_mut.result.now c.index_mut.ensures.value (View c.get.new.self)
     (get_by s.store c.args.name (tell_of c.args.with_tag) c.as_slice-in-View.result.now (thing_of s.store c.args.name))
-    (get_by s.store c.args.name (tell_of c.args.with_tag) c.args.key (thing_of s.store c.args.name)) _ c.told.result
+    (get_by s.store c.args.name (tell_of c.args.with_tag) c.args.key (thing_of s.store c.args.name)) _ c.read_answer.result
     (ap (λ (k : List ℕ). get_by s.store c.args.name (tell_of c.args.with_tag) k (thing_of s.store c.args.name))
-    c.as_slice-in-View.ensures) c.told.ensures
+    c.as_slice-in-View.ensures) c.read_answer.ensures
     (view_read_makes bytes seen core os s stands (without_open c.args.name os) c.args.name c.in-View.view c.get.new.self
     taken c.get.ensures.keeps c.get.ensures.still
     c.as_slice-in-View.result.now c.args.with_tag c.get.result c.get.ensures.refused c.get.ensures.value)
@@ -56,7 +56,7 @@ returns-in-View-clause-near g c s stands untabled =
     c.in-Some.at (sym c.place.ensures ∙ c.in-Some.is) c.index_mut.result.now c.index_mut.ensures.value _ c.in-View.is in
     let (b, there, sees, live, near, began) = its bytes seen core os s stands (without_open c.args.name os) c.args.name
     c.in-View.view taken in
-    call_sound (told_value c.args.with_tag) c.get.result c.told.result c.told.ensures (c.get.ensures.sound (history_of s) sees)
+    call_sound (told_value c.args.with_tag) c.get.result c.read_answer.result c.read_answer.ensures (c.get.ensures.sound (history_of s) sees)
     (c.get.ensures.near (near (reads_none c.in-View.view.ticket s.store.layout untabled)))
 
 pub returns-in-View-clause-undamaged : goal.returns-in-View-clause-undamaged
@@ -70,11 +70,11 @@ returns-in-View-clause-undamaged g c s stands =
     c.in-Some.at (sym c.place.ensures ∙ c.in-Some.is) c.index_mut.result.now c.index_mut.ensures.value _ c.in-View.is in
     let (b, there, sees, live, near, began) = its bytes seen core os s stands (without_open c.args.name os) c.args.name
     c.in-View.view taken in
-    call_undamaged (told_value c.args.with_tag) c.get.result c.told.result c.told.ensures (c.get.ensures.sound (history_of s) sees)
+    call_undamaged (told_value c.args.with_tag) c.get.result c.read_answer.result c.read_answer.ensures (c.get.ensures.sound (history_of s) sees)
 
 pub returns-in-View-clause-fault : goal.returns-in-View-clause-fault
 returns-in-View-clause-fault g c =
-    call_counted (told_value c.args.with_tag) c.get.result c.told.result c.told.ensures g.D.Reader.Reader.faults _ _ c.get.ensures.cause
+    call_counted (told_value c.args.with_tag) c.get.result c.read_answer.result c.read_answer.ensures g.D.Reader.Reader.faults _ _ c.get.ensures.cause
 
 pub returns-clause-makes : goal.returns-clause-makes
 returns-clause-makes g c s stands =
@@ -89,9 +89,9 @@ returns-clause-makes g c s stands =
     c.in-Some.at (sym c.place.ensures ∙ c.in-Some.is) c.index_mut.result.now c.index_mut.ensures.value (Transaction
     c.get-in-Transaction.new.self)
     (get_by s.store c.args.name (tell_of c.args.with_tag) c.as_slice-in-Transaction.result.now (thing_of s.store c.args.name))
-    (get_by s.store c.args.name (tell_of c.args.with_tag) c.args.key (thing_of s.store c.args.name)) _ c.told-in-Transaction.result
+    (get_by s.store c.args.name (tell_of c.args.with_tag) c.args.key (thing_of s.store c.args.name)) _ c.read_answer-in-Transaction.result
     (ap (λ (k : List ℕ). get_by s.store c.args.name (tell_of c.args.with_tag) k (thing_of s.store c.args.name))
-    c.as_slice-in-Transaction.ensures) c.told-in-Transaction.ensures
+    c.as_slice-in-Transaction.ensures) c.read_answer-in-Transaction.ensures
     (txn_read_makes bytes seen core os s stands (without_open c.args.name os) c.args.name c.in-Transaction.txn
     c.get-in-Transaction.new.self taken c.get-in-Transaction.ensures.keeps
     c.as_slice-in-Transaction.result.now c.args.with_tag c.get-in-Transaction.result
@@ -109,8 +109,8 @@ returns-clause-near g c s stands untabled =
     c.in-Some.at (sym c.place.ensures ∙ c.in-Some.is) c.index_mut.result.now c.index_mut.ensures.value _ c.in-Transaction.is in
     let (t, b, there, is, began) = itself bytes seen core os s stands (without_open c.args.name os) c.args.name
     c.in-Transaction.txn taken in
-    call_sound (told_value c.args.with_tag) c.get-in-Transaction.result c.told-in-Transaction.result
-    c.told-in-Transaction.ensures (c.get-in-Transaction.ensures.sound (history_of s) t.reads is.sees)
+    call_sound (told_value c.args.with_tag) c.get-in-Transaction.result c.read_answer-in-Transaction.result
+    c.read_answer-in-Transaction.ensures (c.get-in-Transaction.ensures.sound (history_of s) t.reads is.sees)
     (c.get-in-Transaction.ensures.near (is.near (reads_none c.in-Transaction.txn.ticket s.store.layout untabled)))
 
 pub returns-clause-undamaged : goal.returns-clause-undamaged
@@ -124,10 +124,10 @@ returns-clause-undamaged g c s stands =
     c.in-Some.at (sym c.place.ensures ∙ c.in-Some.is) c.index_mut.result.now c.index_mut.ensures.value _ c.in-Transaction.is in
     let (t, b, there, is, began) = itself bytes seen core os s stands (without_open c.args.name os) c.args.name
     c.in-Transaction.txn taken in
-    call_undamaged (told_value c.args.with_tag) c.get-in-Transaction.result c.told-in-Transaction.result c.told-in-Transaction.ensures
+    call_undamaged (told_value c.args.with_tag) c.get-in-Transaction.result c.read_answer-in-Transaction.result c.read_answer-in-Transaction.ensures
     (c.get-in-Transaction.ensures.sound (history_of s) t.reads is.sees)
 
 pub returns-clause-fault : goal.returns-clause-fault
 returns-clause-fault g c =
-    call_counted (told_value c.args.with_tag) c.get-in-Transaction.result c.told-in-Transaction.result
-    c.told-in-Transaction.ensures g.D.Reader.Reader.faults _ _ c.get-in-Transaction.ensures.cause
+    call_counted (told_value c.args.with_tag) c.get-in-Transaction.result c.read_answer-in-Transaction.result
+    c.read_answer-in-Transaction.ensures g.D.Reader.Reader.faults _ _ c.get-in-Transaction.ensures.cause

@@ -38,7 +38,7 @@ returns-clause-makes g c s stands =
     (c.rotate.ensures.stands fits.state h l fits.told_is stands.engine (λ running. (fits.numbers, fits.active)))
     (c.rotate.ensures.fits h l stands.engine stands.fits)
     (λ openable. (c.rotate.ensures.carries h l (represents bytes seen core os s stands openable)).decides) in
-    subst (λ (x : Result Answer Halt). MakesStep bytes now then os s (step_by s.store (rotate_ruling l h)) x) (sym c.told.ensures)
+    subst (λ (x : Result Answer Halt). MakesStep bytes now then os s (step_by s.store (rotate_ruling l h)) x) (sym c.step_answer.ensures)
     (step_makes bytes seen now core then os s stands (rotate_ruling l h) (rotate_leaves l h)
     (state_after-sound s lines.Rotate stands.sound) _ _ c.rotate.result decides (λ fine. c.rotate.ensures.within fine stands.within))
 
@@ -59,15 +59,15 @@ returns-clause-sound g c s stands halts =
     (λ openable. (c.rotate.ensures.carries h l (represents bytes seen core os s stands openable)).decides) in
     step_sound bytes seen now core then os s stands (rotate_ruling l h) (rotate_leaves l h)
     (state_after-sound s lines.Rotate stands.sound) _ _ c.rotate.result decides
-    (subst (λ (x : Result Answer Halt). HaltsByRead x) c.told.ensures halts)
+    (subst (λ (x : Result Answer Halt). HaltsByRead x) c.step_answer.ensures halts)
 
 pub returns-clause-cause : goal.returns-clause-cause
-returns-clause-cause g c = step_cause c.rotate.result c.told.result c.told.ensures _ _ c.rotate.ensures.cause
+returns-clause-cause g c = step_cause c.rotate.result c.step_answer.result c.step_answer.ensures _ _ c.rotate.ensures.cause
 
 pub returns-clause-named : goal.returns-clause-named
 returns-clause-named g c s file stands is =
     let fits = stands.fits.running stands.running in
-    let either = rotate_named _ _ _ _ file (c.rotate.ensures.stopped file (halted_at c.rotate.result file (sym c.told.ensures ∙ is))) in
+    let either = rotate_named _ _ _ _ file (c.rotate.ensures.stopped file (halted_at c.rotate.result file (sym c.step_answer.ensures ∙ is))) in
     subst (λ (n : ℕ). (file ≡ names.Log n) ⊎ (file ≡ names.Log s.store.layout.next_log)) stands.engine.fronts.number
     (subst (λ (n : ℕ). (file ≡ names.Log c.args.self.now.engine.core.front.log.number) ⊎ (file ≡ names.Log n)) fits.numbers.next_log either)
 
@@ -124,7 +124,7 @@ returns-clause-carries g c s stands =
                 (c.rotate.ensures.meanwhile failed) state told;
           };
     })
-    c.told.result c.told.ensures
+    c.step_answer.result c.step_answer.ensures
 
 pub returns-clause-collects : goal.returns-clause-collects
 returns-clause-collects g c s stands collects =
@@ -132,7 +132,7 @@ returns-clause-collects g c s stands collects =
     let h = history_of s in
     let l = s.store.layout in
     let fits = stands.fits.running stands.running in
-    subst (λ (x : Result Answer Halt). OnOk x (Collects new.core new.collecting (rotate_ruling l h).layout)) (sym c.told.ensures)
+    subst (λ (x : Result Answer Halt). OnOk x (Collects new.core new.collecting (rotate_ruling l h).layout)) (sym c.step_answer.ensures)
     (step_leaves (λ _ m. Collects new.core new.collecting m) h l (rotate_ruling l h) _ _ c.rotate.result
     (c.rotate.ensures.collects h l stands.engine (λ running. fits.numbers) collects))
 
@@ -142,6 +142,6 @@ returns-clause-removes g c s stands =
     let h = history_of s in
     let l = s.store.layout in
     let fits = stands.serves.fits.running stands.serves.running in
-    subst (λ (x : Result Answer Halt). OnOk x (Removes new.core new.removing (rotate_ruling l h).layout)) (sym c.told.ensures)
+    subst (λ (x : Result Answer Halt). OnOk x (Removes new.core new.removing (rotate_ruling l h).layout)) (sym c.step_answer.ensures)
     (step_leaves (λ _ m. Removes new.core new.removing m) h l (rotate_ruling l h) _ _ c.rotate.result
     (c.rotate.ensures.removes h l stands.serves.engine stands.opens (λ running. fits.numbers) stands.removes))

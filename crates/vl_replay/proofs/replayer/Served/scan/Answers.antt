@@ -40,9 +40,9 @@ returns-in-View-clause-makes g c s stands =
     (thing_of s.store c.args.name) in
     in_place bytes seen core os s stands c.deref.result.now c.deref.ensures.value c.as_slice.result.now c.args.name c.as_slice.ensures
     c.in-Some.at (sym c.place.ensures ∙ c.in-Some.is) c.index_mut.result.now c.index_mut.ensures.value (View c.scan.new.self)
-    (step c.as_slice-in-View.result.now c.as_slice-in-View-2.result.now) (step c.args.low c.args.high) _ c.told_rows.result
+    (step c.as_slice-in-View.result.now c.as_slice-in-View-2.result.now) (step c.args.low c.args.high) _ c.scan_answer.result
     (ap (λ (low : List ℕ). step low c.as_slice-in-View-2.result.now) c.as_slice-in-View.ensures ∙ ap
-    (λ (high : List ℕ). step c.args.low high) c.as_slice-in-View-2.ensures) c.told_rows.ensures
+    (λ (high : List ℕ). step c.args.low high) c.as_slice-in-View-2.ensures) c.scan_answer.ensures
     (view_scan_makes bytes seen core os s stands (without_open c.args.name os) c.args.name c.args.way
     c.as_slice-in-View.result.now c.as_slice-in-View-2.result.now c.args.limit
     (λ rows. rows.items) (λ rows. answers.Rows rows) (λ rows. refl) c.in-View.view c.scan.new.self taken
@@ -60,7 +60,7 @@ returns-in-View-clause-near g c s stands untabled =
     c.in-Some.at (sym c.place.ensures ∙ c.in-Some.is) c.index_mut.result.now c.index_mut.ensures.value _ c.in-View.is in
     let (b, there, sees, live, near, began) = its bytes seen core os s stands (without_open c.args.name os) c.args.name
     c.in-View.view taken in
-    call_sound (λ rows. answers.Rows rows) c.scan.result c.told_rows.result c.told_rows.ensures (c.scan.ensures.sound (history_of s) sees)
+    call_sound (λ rows. answers.Rows rows) c.scan.result c.scan_answer.result c.scan_answer.ensures (c.scan.ensures.sound (history_of s) sees)
     (c.scan.ensures.near (near (reads_none c.in-View.view.ticket s.store.layout untabled)))
 
 pub returns-in-View-clause-undamaged : goal.returns-in-View-clause-undamaged
@@ -74,12 +74,12 @@ returns-in-View-clause-undamaged g c s stands =
     c.in-Some.at (sym c.place.ensures ∙ c.in-Some.is) c.index_mut.result.now c.index_mut.ensures.value _ c.in-View.is in
     let (b, there, sees, live, near, began) = its bytes seen core os s stands (without_open c.args.name os) c.args.name
     c.in-View.view taken in
-    call_undamaged (λ rows. answers.Rows rows) c.scan.result c.told_rows.result c.told_rows.ensures
+    call_undamaged (λ rows. answers.Rows rows) c.scan.result c.scan_answer.result c.scan_answer.ensures
     (c.scan.ensures.sound (history_of s) sees)
 
 pub returns-in-View-clause-fault : goal.returns-in-View-clause-fault
 returns-in-View-clause-fault g c =
-    call_counted (λ rows. answers.Rows rows) c.scan.result c.told_rows.result c.told_rows.ensures
+    call_counted (λ rows. answers.Rows rows) c.scan.result c.scan_answer.result c.scan_answer.ensures
     g.D.Reader.Reader.faults _ _ c.scan.ensures.cause
 
 pub returns-clause-makes : goal.returns-clause-makes
@@ -97,9 +97,9 @@ returns-clause-makes g c s stands =
     c.in-Some.at (sym c.place.ensures ∙ c.in-Some.is) c.index_mut.result.now c.index_mut.ensures.value (Transaction
     c.scan-in-Transaction.new.self)
     (step c.as_slice-in-Transaction.result.now c.as_slice-in-Transaction-2.result.now) (step c.args.low c.args.high)
-    _ c.told_rows-in-Transaction.result
+    _ c.scan_answer-in-Transaction.result
     (ap (λ (low : List ℕ). step low c.as_slice-in-Transaction-2.result.now) c.as_slice-in-Transaction.ensures ∙ ap
-    (λ (high : List ℕ). step c.args.low high) c.as_slice-in-Transaction-2.ensures) c.told_rows-in-Transaction.ensures
+    (λ (high : List ℕ). step c.args.low high) c.as_slice-in-Transaction-2.ensures) c.scan_answer-in-Transaction.ensures
     (txn_scan_makes bytes seen core os s stands (without_open c.args.name os) c.args.name c.args.way
     c.as_slice-in-Transaction.result.now c.as_slice-in-Transaction-2.result.now c.args.limit
     (λ rows. rows.items) (λ rows. answers.Rows rows) (λ rows. refl) c.in-Transaction.txn
@@ -119,8 +119,8 @@ returns-clause-near g c s stands untabled =
     c.in-Some.at (sym c.place.ensures ∙ c.in-Some.is) c.index_mut.result.now c.index_mut.ensures.value _ c.in-Transaction.is in
     let (t, b, there, is, began) = itself bytes seen core os s stands (without_open c.args.name os) c.args.name
     c.in-Transaction.txn taken in
-    call_sound (λ rows. answers.Rows rows) c.scan-in-Transaction.result c.told_rows-in-Transaction.result
-    c.told_rows-in-Transaction.ensures (c.scan-in-Transaction.ensures.sound (history_of s) t.reads is.sees)
+    call_sound (λ rows. answers.Rows rows) c.scan-in-Transaction.result c.scan_answer-in-Transaction.result
+    c.scan_answer-in-Transaction.ensures (c.scan-in-Transaction.ensures.sound (history_of s) t.reads is.sees)
     (c.scan-in-Transaction.ensures.near (is.near (reads_none c.in-Transaction.txn.ticket s.store.layout untabled)))
 
 pub returns-clause-undamaged : goal.returns-clause-undamaged
@@ -134,11 +134,11 @@ returns-clause-undamaged g c s stands =
     c.in-Some.at (sym c.place.ensures ∙ c.in-Some.is) c.index_mut.result.now c.index_mut.ensures.value _ c.in-Transaction.is in
     let (t, b, there, is, began) = itself bytes seen core os s stands (without_open c.args.name os) c.args.name
     c.in-Transaction.txn taken in
-    call_undamaged (λ rows. answers.Rows rows) c.scan-in-Transaction.result c.told_rows-in-Transaction.result
-    c.told_rows-in-Transaction.ensures
+    call_undamaged (λ rows. answers.Rows rows) c.scan-in-Transaction.result c.scan_answer-in-Transaction.result
+    c.scan_answer-in-Transaction.ensures
     (c.scan-in-Transaction.ensures.sound (history_of s) t.reads is.sees)
 
 pub returns-clause-fault : goal.returns-clause-fault
 returns-clause-fault g c =
-    call_counted (λ rows. answers.Rows rows) c.scan-in-Transaction.result c.told_rows-in-Transaction.result
-    c.told_rows-in-Transaction.ensures g.D.Reader.Reader.faults _ _ c.scan-in-Transaction.ensures.cause
+    call_counted (λ rows. answers.Rows rows) c.scan-in-Transaction.result c.scan_answer-in-Transaction.result
+    c.scan_answer-in-Transaction.ensures g.D.Reader.Reader.faults _ _ c.scan-in-Transaction.ensures.cause

@@ -38,7 +38,7 @@ returns-clause-makes g c s stands =
     (c.sweep.ensures.stands h l opened stands.removes))
     (c.sweep.ensures.fits h l on.fits on.engine stands.removes)
     (λ openable. (c.sweep.ensures.carries h l (represents bytes seen old.core os s on openable) stands.removes).decides) in
-    subst (λ (x : Result Answer Halt). MakesStep bytes now new.core os s (sweep_by s.store (sweep_ruling l h)) x) (sym c.told.ensures)
+    subst (λ (x : Result Answer Halt). MakesStep bytes now new.core os s (sweep_by s.store (sweep_ruling l h)) x) (sym c.sweep_answer.ensures)
     (sweep_makes bytes seen now old.core new.core os s on (sweep_ruling l h) (sweep_sweeps l h on.engine.tidy.files.once)
     (state_after-sound s lines.Sweep on.sound) _ _ c.sweep.result decides (c.sweep.ensures.within on.within))
 
@@ -47,7 +47,7 @@ returns-clause-removes g c s stands =
     let new = c.sweep.new.self in
     let h = history_of s in
     let l = s.store.layout in
-    subst (λ (x : Result Answer Halt). OnOk x (Removes new.core new.removing (sweep_ruling l h).layout)) (sym c.told.ensures)
+    subst (λ (x : Result Answer Halt). OnOk x (Removes new.core new.removing (sweep_ruling l h).layout)) (sym c.sweep_answer.ensures)
     (sweep_leaves (λ _ m. Removes new.core new.removing m) h l (sweep_ruling l h) _ _ c.sweep.result
     (c.sweep.ensures.removes h l stands.serves.engine stands.removes))
 
@@ -56,7 +56,7 @@ returns-clause-collects g c s stands collects =
     let new = c.sweep.new.self in
     let h = history_of s in
     let l = s.store.layout in
-    subst (λ (x : Result Answer Halt). OnOk x (Collects new.core new.collecting (sweep_ruling l h).layout)) (sym c.told.ensures)
+    subst (λ (x : Result Answer Halt). OnOk x (Collects new.core new.collecting (sweep_ruling l h).layout)) (sym c.sweep_answer.ensures)
     (sweep_leaves (λ _ m. Collects new.core new.collecting m) h l (sweep_ruling l h) _ _ c.sweep.result
     (c.sweep.ensures.collects h l stands.serves.engine stands.removes collects))
 
@@ -79,10 +79,10 @@ returns-clause-sound g c s stands halts =
     (λ openable. (c.sweep.ensures.carries h l (represents bytes seen old.core os s on openable) stands.removes).decides) in
     sweep_sound bytes seen now old.core new.core os s on (sweep_ruling l h) (sweep_sweeps l h on.engine.tidy.files.once)
     (state_after-sound s lines.Sweep on.sound) _ _ c.sweep.result decides
-    (subst (λ (x : Result Answer Halt). HaltsByRead x) c.told.ensures halts)
+    (subst (λ (x : Result Answer Halt). HaltsByRead x) c.sweep_answer.ensures halts)
 
 pub returns-clause-cause : goal.returns-clause-cause
-returns-clause-cause g c = sweep_cause c.sweep.result c.told.result c.told.ensures _ _ c.sweep.ensures.cause
+returns-clause-cause g c = sweep_cause c.sweep.result c.sweep_answer.result c.sweep_answer.ensures _ _ c.sweep.ensures.cause
 
 pub returns-clause-named : goal.returns-clause-named
 returns-clause-named g c s file stands is =
@@ -93,7 +93,7 @@ returns-clause-named g c s file stands is =
     sweep_named g.D.Watched (record { only_now = g.met.D.Disk.only_now; counts_now = g.met.D.Disk.counts_now }) g.D.Writer.Writer bytes
     old.core new.core old.disk new.disk old.removing new.removing c.args.self.now.opens.items s stands.serves stands.removes
     (sweep_sweeps l (history_of s) stands.serves.engine.tidy.files.once) c.sweep.result file c.sweep.ensures.as_swept
-    (sym c.told.ensures ∙ is)
+    (sym c.sweep_answer.ensures ∙ is)
 
 pub returns-clause-carries : goal.returns-clause-carries
 returns-clause-carries g c s stands =
@@ -112,8 +112,8 @@ returns-clause-carries g c s stands =
       carries = λ represents. c.sweep.ensures.carries h l represents stands.removes;
       files = c.sweep.ensures.files;
       within = c.sweep.ensures.within on.within;
-      sound = λ halts. returns-clause-sound g c s stands (subst (λ (x : Result Answer Halt). HaltsByRead x) (sym c.told.ensures) halts);
+      sound = λ halts. returns-clause-sound g c s stands (subst (λ (x : Result Answer Halt). HaltsByRead x) (sym c.sweep_answer.ensures) halts);
       as_swept = c.sweep.ensures.as_swept;
       there = old.there;
       leaves = λ represents failed then told. c.sweep.ensures.leaves h l then represents stands.removes on.within failed told;
-    }) c.told.result c.told.ensures
+    }) c.sweep_answer.result c.sweep_answer.ensures

@@ -37,7 +37,7 @@ returns-clause-makes g c s stands =
     in_place bytes seen core os s stands c.deref.result.now c.deref.ensures.value c.as_slice.result.now c.args.name c.as_slice.ensures
     c.in-Some.at (sym c.place.ensures ∙ c.in-Some.is) c.index_mut.result.now c.index_mut.ensures.value (Transaction c.change.new.txn)
     (write_by s.store c.args.name c.args.key (change_of c.args.value) (thing_of s.store c.args.name)) _ _
-    c.told.result refl c.told.ensures
+    c.write_answer.result refl c.write_answer.ensures
     (write_makes bytes seen core os s stands (without_open c.args.name os) c.args.name c.in-Transaction.txn taken
     c.change.new.txn c.args.key (change_of c.args.value)
     c.change.ensures.keeps c.change.ensures.sees c.change.result c.change.ensures.written)

@@ -6,7 +6,7 @@ use Rattle.vl_engine_model.specs.Store.Things.{Step}
 use Rattle.vl_script_model.specs.declared.fails.Halt.TheVariants as why
 use Rattle.vl_script.specs.declared.answer.Answer.TheVariants as answers
 use Rattle.vl_replay.proofs.Merges.Installing.{back_so, handed_so, line_carries, line_leaves, line_makes, line_merges, line_named}
-use Rattle.vl_replay.proofs.Merges.Installing.{line_sound, no_merge, told_as, told_install, unknown_carries}
+use Rattle.vl_replay.proofs.Merges.Installing.{answer_as, install_answer, line_sound, no_merge, unknown_carries}
 use Rattle.vl_replay.proofs.Merges.Installing.{unknown_install, unknown_step, unplanned, was_planned}
 use Rattle.vl_space.specs.Removing.{Removes}
 use Rattle.vl_engine_model.specs.declared.layout.Layout.{Layout}
@@ -87,7 +87,7 @@ returns-in-Ok-clause-makes g c s stands =
       leaves = c.install.ensures.leaves;
       within = c.install.ensures.within;
     })
-    (Ok answers.Done) (ap told_install c.in-Ok.is)
+    (Ok answers.Done) (ap install_answer c.in-Ok.is)
 
 pub returns-in-Ok-clause-merges : goal.returns-in-Ok-clause-merges
 returns-in-Ok-clause-merges g c s stands =
@@ -109,7 +109,7 @@ returns-in-Ok-clause-merges g c s stands =
       leaves = c.install.ensures.leaves;
       within = c.install.ensures.within;
     })
-    (Ok answers.Done) (ap told_install c.in-Ok.is)
+    (Ok answers.Done) (ap install_answer c.in-Ok.is)
 
 pub returns-in-Ok-clause-collects : goal.returns-in-Ok-clause-collects
 returns-in-Ok-clause-collects g c s stands collected =
@@ -133,7 +133,7 @@ returns-in-Ok-clause-collects g c s stands collected =
     })
     (Collects c.args.served.now.engine.core c.args.served.now.engine.collecting)
     (Collects c.install.new.self.core c.install.new.self.collecting) c.install.ensures.collects collected
-    (Ok answers.Done) (ap told_install c.in-Ok.is)
+    (Ok answers.Done) (ap install_answer c.in-Ok.is)
 
 pub returns-in-Ok-clause-removes : goal.returns-in-Ok-clause-removes
 returns-in-Ok-clause-removes g c s stands collected removes =
@@ -160,7 +160,7 @@ returns-in-Ok-clause-removes g c s stands collected removes =
     (Removes c.install.new.self.core c.install.new.self.removing)
     (λ state h l o told stands is files has lent both. c.install.ensures.removes state h l o told stands is files has lent both.0 both.1)
     (collected, removes)
-    (Ok answers.Done) (ap told_install c.in-Ok.is)
+    (Ok answers.Done) (ap install_answer c.in-Ok.is)
 
 pub returns-in-Ok-clause-carries : goal.returns-in-Ok-clause-carries
 returns-in-Ok-clause-carries g c s stands =
@@ -182,7 +182,7 @@ returns-in-Ok-clause-carries g c s stands =
       leaves = c.install.ensures.leaves;
       within = c.install.ensures.within;
     })
-    (Ok answers.Done) (ap told_install c.in-Ok.is) c.install.new.self.disk refl
+    (Ok answers.Done) (ap install_answer c.in-Ok.is) c.install.new.self.disk refl
 
 pub returns-in-Err-Raced-clause-makes : goal.returns-in-Err-Raced-clause-makes
 returns-in-Err-Raced-clause-makes g c s stands =
@@ -204,7 +204,7 @@ returns-in-Err-Raced-clause-makes g c s stands =
       leaves = c.install.ensures.leaves;
       within = c.install.ensures.within;
     })
-    (Ok (answers.Raced c.in-Err-Raced.key)) (told_as c.install.result c.in-Err-Raced.field-0 _ c.in-Err-Raced.is c.in-Err-Raced.field-0-is)
+    (Ok (answers.Raced c.in-Err-Raced.key)) (answer_as c.install.result c.in-Err-Raced.field-0 _ c.in-Err-Raced.is c.in-Err-Raced.field-0-is)
 
 pub returns-in-Err-Raced-clause-merges : goal.returns-in-Err-Raced-clause-merges
 returns-in-Err-Raced-clause-merges g c s stands =
@@ -226,7 +226,7 @@ returns-in-Err-Raced-clause-merges g c s stands =
       leaves = c.install.ensures.leaves;
       within = c.install.ensures.within;
     })
-    (Ok (answers.Raced c.in-Err-Raced.key)) (told_as c.install.result c.in-Err-Raced.field-0 _ c.in-Err-Raced.is c.in-Err-Raced.field-0-is)
+    (Ok (answers.Raced c.in-Err-Raced.key)) (answer_as c.install.result c.in-Err-Raced.field-0 _ c.in-Err-Raced.is c.in-Err-Raced.field-0-is)
 
 pub returns-in-Err-Raced-clause-collects : goal.returns-in-Err-Raced-clause-collects
 returns-in-Err-Raced-clause-collects g c s stands collected =
@@ -250,7 +250,7 @@ returns-in-Err-Raced-clause-collects g c s stands collected =
     })
     (Collects c.args.served.now.engine.core c.args.served.now.engine.collecting)
     (Collects c.install.new.self.core c.install.new.self.collecting) c.install.ensures.collects collected
-    (Ok (answers.Raced c.in-Err-Raced.key)) (told_as c.install.result c.in-Err-Raced.field-0 _ c.in-Err-Raced.is c.in-Err-Raced.field-0-is)
+    (Ok (answers.Raced c.in-Err-Raced.key)) (answer_as c.install.result c.in-Err-Raced.field-0 _ c.in-Err-Raced.is c.in-Err-Raced.field-0-is)
 
 pub returns-in-Err-Raced-clause-removes : goal.returns-in-Err-Raced-clause-removes
 returns-in-Err-Raced-clause-removes g c s stands collected removes =
@@ -277,7 +277,7 @@ returns-in-Err-Raced-clause-removes g c s stands collected removes =
     (Removes c.install.new.self.core c.install.new.self.removing)
     (λ state h l o told stands is files has lent both. c.install.ensures.removes state h l o told stands is files has lent both.0 both.1)
     (collected, removes)
-    (Ok (answers.Raced c.in-Err-Raced.key)) (told_as c.install.result c.in-Err-Raced.field-0 _ c.in-Err-Raced.is c.in-Err-Raced.field-0-is)
+    (Ok (answers.Raced c.in-Err-Raced.key)) (answer_as c.install.result c.in-Err-Raced.field-0 _ c.in-Err-Raced.is c.in-Err-Raced.field-0-is)
 
 pub returns-in-Err-Raced-clause-carries : goal.returns-in-Err-Raced-clause-carries
 returns-in-Err-Raced-clause-carries g c s stands =
@@ -300,7 +300,7 @@ returns-in-Err-Raced-clause-carries g c s stands =
       within = c.install.ensures.within;
     })
     (Ok (answers.Raced c.in-Err-Raced.key))
-    (told_as c.install.result c.in-Err-Raced.field-0 _ c.in-Err-Raced.is c.in-Err-Raced.field-0-is) c.install.new.self.disk refl
+    (answer_as c.install.result c.in-Err-Raced.field-0 _ c.in-Err-Raced.is c.in-Err-Raced.field-0-is) c.install.new.self.disk refl
 
 pub returns-in-Err-Exhausted-clause-makes : goal.returns-in-Err-Exhausted-clause-makes
 returns-in-Err-Exhausted-clause-makes g c s stands =
@@ -323,7 +323,7 @@ returns-in-Err-Exhausted-clause-makes g c s stands =
       within = c.install.ensures.within;
     })
     (Ok (answers.Exhausted c.in-Err-Exhausted.counter))
-    (told_as c.install.result c.in-Err-Exhausted.field-0 _ c.in-Err-Exhausted.is c.in-Err-Exhausted.field-0-is)
+    (answer_as c.install.result c.in-Err-Exhausted.field-0 _ c.in-Err-Exhausted.is c.in-Err-Exhausted.field-0-is)
 
 pub returns-in-Err-Exhausted-clause-merges : goal.returns-in-Err-Exhausted-clause-merges
 returns-in-Err-Exhausted-clause-merges g c s stands =
@@ -346,7 +346,7 @@ returns-in-Err-Exhausted-clause-merges g c s stands =
       within = c.install.ensures.within;
     })
     (Ok (answers.Exhausted c.in-Err-Exhausted.counter))
-    (told_as c.install.result c.in-Err-Exhausted.field-0 _ c.in-Err-Exhausted.is c.in-Err-Exhausted.field-0-is)
+    (answer_as c.install.result c.in-Err-Exhausted.field-0 _ c.in-Err-Exhausted.is c.in-Err-Exhausted.field-0-is)
 
 pub returns-in-Err-Exhausted-clause-collects : goal.returns-in-Err-Exhausted-clause-collects
 returns-in-Err-Exhausted-clause-collects g c s stands collected =
@@ -371,7 +371,7 @@ returns-in-Err-Exhausted-clause-collects g c s stands collected =
     (Collects c.args.served.now.engine.core c.args.served.now.engine.collecting)
     (Collects c.install.new.self.core c.install.new.self.collecting) c.install.ensures.collects collected
     (Ok (answers.Exhausted c.in-Err-Exhausted.counter))
-    (told_as c.install.result c.in-Err-Exhausted.field-0 _ c.in-Err-Exhausted.is c.in-Err-Exhausted.field-0-is)
+    (answer_as c.install.result c.in-Err-Exhausted.field-0 _ c.in-Err-Exhausted.is c.in-Err-Exhausted.field-0-is)
 
 pub returns-in-Err-Exhausted-clause-removes : goal.returns-in-Err-Exhausted-clause-removes
 returns-in-Err-Exhausted-clause-removes g c s stands collected removes =
@@ -399,7 +399,7 @@ returns-in-Err-Exhausted-clause-removes g c s stands collected removes =
     (λ state h l o told stands is files has lent both. c.install.ensures.removes state h l o told stands is files has lent both.0 both.1)
     (collected, removes)
     (Ok (answers.Exhausted c.in-Err-Exhausted.counter))
-    (told_as c.install.result c.in-Err-Exhausted.field-0 _ c.in-Err-Exhausted.is c.in-Err-Exhausted.field-0-is)
+    (answer_as c.install.result c.in-Err-Exhausted.field-0 _ c.in-Err-Exhausted.is c.in-Err-Exhausted.field-0-is)
 
 pub returns-in-Err-Exhausted-clause-carries : goal.returns-in-Err-Exhausted-clause-carries
 returns-in-Err-Exhausted-clause-carries g c s stands =
@@ -422,7 +422,7 @@ returns-in-Err-Exhausted-clause-carries g c s stands =
       within = c.install.ensures.within;
     })
     (Ok (answers.Exhausted c.in-Err-Exhausted.counter))
-    (told_as c.install.result c.in-Err-Exhausted.field-0 _ c.in-Err-Exhausted.is c.in-Err-Exhausted.field-0-is)
+    (answer_as c.install.result c.in-Err-Exhausted.field-0 _ c.in-Err-Exhausted.is c.in-Err-Exhausted.field-0-is)
     c.install.new.self.disk refl
 
 pub returns-in-Err-NoMemory-clause-carries : goal.returns-in-Err-NoMemory-clause-carries
@@ -445,7 +445,7 @@ returns-in-Err-NoMemory-clause-carries g c s stands =
       leaves = c.install.ensures.leaves;
       within = c.install.ensures.within;
     })
-    (Err why.NoMemory) (told_as c.install.result c.in-Err-NoMemory.field-0 _ c.in-Err-NoMemory.is c.in-Err-NoMemory.field-0-is)
+    (Err why.NoMemory) (answer_as c.install.result c.in-Err-NoMemory.field-0 _ c.in-Err-NoMemory.is c.in-Err-NoMemory.field-0-is)
     c.abandon.new.self.disk c.abandon.ensures.disk
 
 pub returns-in-Err-Disk-clause-carries : goal.returns-in-Err-Disk-clause-carries
@@ -468,7 +468,7 @@ returns-in-Err-Disk-clause-carries g c s stands =
       leaves = c.install.ensures.leaves;
       within = c.install.ensures.within;
     })
-    (Err (why.Disk c.in-Err-Disk.file)) (told_as c.install.result c.in-Err-Disk.field-0 _ c.in-Err-Disk.is c.in-Err-Disk.field-0-is)
+    (Err (why.Disk c.in-Err-Disk.file)) (answer_as c.install.result c.in-Err-Disk.field-0 _ c.in-Err-Disk.is c.in-Err-Disk.field-0-is)
     c.install.new.self.disk refl
 
 pub returns-in-Err-Disk-clause-named : goal.returns-in-Err-Disk-clause-named
@@ -491,7 +491,7 @@ returns-in-Err-Disk-clause-named g c s file stands is =
       leaves = c.install.ensures.leaves;
       within = c.install.ensures.within;
     })
-    file ((told_as c.install.result c.in-Err-Disk.field-0 _ c.in-Err-Disk.is c.in-Err-Disk.field-0-is) ∙ is)
+    file ((answer_as c.install.result c.in-Err-Disk.field-0 _ c.in-Err-Disk.is c.in-Err-Disk.field-0-is) ∙ is)
 
 pub returns-clause-carries : goal.returns-clause-carries
 returns-clause-carries g c s stands =
@@ -514,7 +514,7 @@ returns-clause-carries g c s stands =
       within = c.install.ensures.within;
     })
     (Err (why.Read c.in-Err-Halted.file))
-    (told_as c.install.result c.in-Err-Halted.field-0 _ c.in-Err-Halted.is c.in-Err-Halted.field-0-is) c.install.new.self.disk refl
+    (answer_as c.install.result c.in-Err-Halted.field-0 _ c.in-Err-Halted.is c.in-Err-Halted.field-0-is) c.install.new.self.disk refl
 
 pub returns-clause-sound : goal.returns-clause-sound
 returns-clause-sound g c s stands =
@@ -536,4 +536,4 @@ returns-clause-sound g c s stands =
       leaves = c.install.ensures.leaves;
       within = c.install.ensures.within;
     })
-    (Err (why.Read c.in-Err-Halted.file)) (told_as c.install.result c.in-Err-Halted.field-0 _ c.in-Err-Halted.is c.in-Err-Halted.field-0-is)
+    (Err (why.Read c.in-Err-Halted.file)) (answer_as c.install.result c.in-Err-Halted.field-0 _ c.in-Err-Halted.is c.in-Err-Halted.field-0-is)
