@@ -90,13 +90,13 @@ impl<D: Disk> Replayer<D> {
             mut passing,
             ..
         } = self;
-        give_up(&mut served, &mut planned, &mut passing);
+        abandon_all(&mut served, &mut planned, &mut passing);
         served.engine.close()
     }
 }
 
 // Gives up the merge that waits, and the pass that is open.
-fn give_up<D: Disk>(
+fn abandon_all<D: Disk>(
     served: &mut Served<D>,
     planned: &mut Option<Planned<Base<D::Held, D::Reader>, D::Held, D::Writer>>,
     passing: &mut Option<Passing<Base<D::Held, D::Reader>, D::Held>>,

@@ -38,7 +38,7 @@ impl<D: Disk> Session<D> {
         let kept = job.kept_count();
         match self.install(rt, job) {
             Ok(()) => Ok(Some(kept)),
-            Err(fail) => Err(self.given_up(rt, fail)),
+            Err(fail) => Err(self.abandoned(rt, fail)),
         }
     }
 
@@ -70,7 +70,7 @@ impl<D: Disk> Session<D> {
     }
 
     // The tables weren't put in: the merge is over, also where it was handed back.
-    fn given_up<R: Wait>(
+    fn abandoned<R: Wait>(
         &mut self,
         rt: &R,
         fail: InstallFail<Base<D::Held, D::Reader>, D::Held, D::Writer>,

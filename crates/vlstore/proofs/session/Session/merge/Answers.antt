@@ -30,8 +30,8 @@ pub carry_out-requires-clause-looks : goal.carry_out-requires-clause-looks
 carry_out-requires-clause-looks g c told =
     c.in_ok-job.ensures.looks (sym c.plan.ensures.on.tells ∙ told) c.in-Some.job c.in-Some.is
 
-pub given_up-requires : goal.given_up-requires
-given_up-requires g c =
+pub abandoned-requires : goal.abandoned-requires
+abandoned-requires g c =
     given_back c.install.new.self g.D.Writer.Writer g.D.Held.HeldFile.bytes c.in-Err-install.fail c.in-Err-install.ensures.again
 
 -- ---- what is seen
@@ -48,9 +48,9 @@ returns-in-Ok-clause-on g c =
 
 pub returns-in-Err-install-clause-on : goal.returns-in-Err-install-clause-on
 returns-in-Err-install-clause-on g c =
-    on_and_on c.args.self.now c.plan.new.self c.given_up.new.self c.plan.ensures.on
-    (on_and_on c.plan.new.self c.carry_out.new.self c.given_up.new.self c.carry_out.ensures.on
-    (on_and_on c.carry_out.new.self c.install.new.self c.given_up.new.self c.install.ensures.on c.given_up.ensures.on))
+    on_and_on c.args.self.now c.plan.new.self c.abandoned.new.self c.plan.ensures.on
+    (on_and_on c.plan.new.self c.carry_out.new.self c.abandoned.new.self c.carry_out.ensures.on
+    (on_and_on c.carry_out.new.self c.install.new.self c.abandoned.new.self c.install.ensures.on c.abandoned.ensures.on))
 
 -- ---- what its own steps are
 
@@ -107,14 +107,14 @@ returns-in-Err-install-clause-works g c told =
     let made_so = did_work c.plan.new.self c.carry_out.new.self (c.carry_out.ensures.changes told_then) in
     let way = c.carry_out.ensures.under_way in
     let made = made_of c.carry_out.new.job way.planned in
-    did_on IsWork c.args.self.now c.plan.new.self c.given_up.new.self planned_so
-    (did_on IsWork c.plan.new.self c.carry_out.new.self c.given_up.new.self made_so
-    (did_on IsWork c.carry_out.new.self c.install.new.self c.given_up.new.self
+    did_on IsWork c.args.self.now c.plan.new.self c.abandoned.new.self planned_so
+    (did_on IsWork c.plan.new.self c.carry_out.new.self c.abandoned.new.self made_so
+    (did_on IsWork c.carry_out.new.self c.install.new.self c.abandoned.new.self
     (stepped_so IsWork c.carry_out.new.self c.install.new.self (λ l h. install_ruling l h way.planned made)
     (install_entry way.planned made) (install_outcome c.install.result)
     (λ n l h. install_works way.planned made n l h (install_outcome c.install.result))
     (c.install.ensures.steps told_made way.planned way.own))
-    (c.given_up.ensures.works (c.install.ensures.on.tells ∙ told_made))))
+    (c.abandoned.ensures.works (c.install.ensures.on.tells ∙ told_made))))
 
 -- ---- which merge it was
 
@@ -190,7 +190,7 @@ returns-in-Err-install-clause-over g c told job own =
     let way = c.carry_out.ensures.under_way in
     let made = made_of c.carry_out.new.job way.planned in
     let told_made = c.carry_out.ensures.on.tells ∙ (c.plan.ensures.on.tells ∙ told) in
-    let left = c.given_up.ensures.over (c.install.ensures.on.tells ∙ told_made) job own in
+    let left = c.abandoned.ensures.over (c.install.ensures.on.tells ∙ told_made) job own in
     let fail = c.in-Err-install.fail in
     absurd (none_own c.install.new.self
     (job_ended c.carry_out.new.self c.install.new.self (λ l h. install_ruling l h way.planned made)

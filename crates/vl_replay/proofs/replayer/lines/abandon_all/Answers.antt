@@ -1,6 +1,6 @@
 use Rattle.std.proofs.Common.{sym, ◌∙◌}
 use Rattle.vl_replay.proofs.Merges.Handing.{under_way}
-use Rattle.vl_replay.proofs.replayer.lines.give_up.Goals as goal
+use Rattle.vl_replay.proofs.replayer.lines.abandon_all.Goals as goal
 
 pub abandon-requires : goal.abandon-requires
 abandon-requires g c =

@@ -6,7 +6,7 @@ use Rattle.vlstore.specs.Entries.{abandon_entry}
 use Rattle.vlstore.specs.Handing.{IfHandedBack}
 use Rattle.vlstore.specs.Merging.{IsWork}
 use Rattle.vlstore.proofs.Merged.{abandon_works, job_ended, none_own, stepped_so}
-use Rattle.vlstore.proofs.session.Session.given_up.Goals as goal
+use Rattle.vlstore.proofs.session.Session.abandoned.Goals as goal
 
 pub returns-in-NoMemory-clause-works : goal.returns-in-NoMemory-clause-works
 returns-in-NoMemory-clause-works g c told =
