@@ -67,7 +67,7 @@ pub fn make_tables<D: Disk>(
     // A merge that has all of its tables can be handed in.
     ensures handed { result ≡ Ok None
         → MayHandIn D.Watched D.Writer.Writer engine.new.disk engine.new.merging job.new }
-    // However it ends, the merge can be given up.
+    // However it ends, the merge can be abandoned.
     ensures under_way { MayGiveUp D.Watched D.Writer.Writer engine.new.disk engine.new.core.front.halted engine.new.merging job.new }
 {
     let mut reader = engine.reader()?;

@@ -80,7 +80,7 @@ impl<D: Disk> Replayer<D> {
         }
     }
 
-    /// The disk. What is open is ended: a merge that waits and a pass are given up.
+    /// The disk. What is open is ended: a merge that waits is abandoned, and a pass.
     pub fn close(self) -> D
         ensures { result ≡ disk_of self }
     {
@@ -95,7 +95,7 @@ impl<D: Disk> Replayer<D> {
     }
 }
 
-// Gives up the merge that waits, and the pass that is open.
+// Abandons the merge that waits, and ends the pass that is open.
 fn abandon_all<D: Disk>(
     served: &mut Served<D>,
     planned: &mut Option<Planned<Base<D::Held, D::Reader>, D::Held, D::Writer>>,

@@ -103,7 +103,7 @@ pub(super) fn end<D: Disk>(
 
 /// Plans the merge of these tables, under this name, which is free, and makes its tables in files that the engine lends. It waits
 /// then for its install.
-/// Where it stops before it has all of them, it is given up.
+/// Where it stops before it has all of them, it is abandoned.
 pub(super) fn plan<D: Disk>(
     served: &mut Served<D>,
     planned: &mut Option<Planned<Base<D::Held, D::Reader>, D::Held, D::Writer>>,

@@ -40,7 +40,7 @@ impl<D: Disk> Session<D> {
             → Stepped (NeverFails D.faults D.Reader.faults D.Writer.faults) self.old self.new
             (λ l h. install_ruling l h planned (made_of job planned))
             (install_entry planned (made_of job planned)) (install_outcome result) }
-        // It may be handed in again, or given up.
+        // It may be handed in again, or abandoned.
         ensures back { ForSome (job_back result) (λ back. back ≡ job) }
         ensures again { ForSome (job_back result) (IsHandedInto self.new D.Writer.Writer D.Held.bytes) }
     {

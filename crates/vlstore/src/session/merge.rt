@@ -18,7 +18,7 @@ impl<D: Disk> Session<D> {
     /// Does a whole merge of tables: `plan`, then `ready`, `fresh` and `fill` beside the lock until all of its
     /// tables are made, then `install`. It answers how many entries the new tables have; none where a merge is
     /// open, of this session or another, or where no level is due. Refusals are those of these calls; the merge
-    /// is given up then, all contents stand, and a later call begins another one. A failed read, or write of a
+    /// is abandoned then, all contents stand, and a later call begins another one. A failed read, or write of a
     /// merge's file, doesn't halt the store.
     pub fn merge<R: Wait>(&mut self, rt: &R, alloc: Global) -> Result<Option<u64>, MergeFail>
         ensures on { GoesOn self.old self.new }

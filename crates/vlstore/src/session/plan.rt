@@ -117,7 +117,7 @@ impl<D: Disk> Session<D> {
         answer
     }
 
-    /// Gives up a merge of this session, at any point of it. Its files wait for a sweep. It wants no memory.
+    /// Abandons a merge of this session, at any point of it. Its files wait for a sweep. It wants no memory.
     pub fn abandon<R: Wait>(
         &mut self,
         rt: &R,

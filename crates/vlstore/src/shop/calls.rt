@@ -87,7 +87,7 @@ impl Shop for SureSession<SureDisk> {
         match answer {
             Ok(_) => Ok(()),
             Err(MergeFail::NoMemory) => Err(vl_drive::StepFail::NoMemory),
-            // The merge was given up. A store that it halted says so in its next step.
+            // The merge was abandoned. A store that it halted says so in its next step.
             Err(_) => Err(vl_drive::StepFail::Refused),
         }
     }
