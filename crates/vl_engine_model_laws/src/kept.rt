@@ -4,26 +4,12 @@ ghost use Rattle.vl_model.specs.History.{History, last_number};
 ghost use Rattle.vl_model.specs.Versions.{low};
 ghost use Rattle.vl_engine_model.specs.Jobs.{Made};
 ghost use Rattle.vl_engine_model.specs.Merging.{needless};
-ghost use Rattle.vl_engine_model.specs.Relocation.{Candidate, Pass};
-ghost use Rattle.vl_engine_model.specs.Rulings.Abandon.{abandon_ruling};
-ghost use Rattle.vl_engine_model.specs.Rulings.Begin.{begin_ruling};
-ghost use Rattle.vl_engine_model.specs.Rulings.Commit.{Transaction, commit_ruling};
-ghost use Rattle.vl_engine_model.specs.Rulings.Drain.{drain_ruling};
-ghost use Rattle.vl_engine_model.specs.Rulings.EndPass.{end_pass_ruling};
-ghost use Rattle.vl_engine_model.specs.Rulings.Flush.{flush_ruling};
-ghost use Rattle.vl_engine_model.specs.Rulings.Forget.{forget_ruling};
-ghost use Rattle.vl_engine_model.specs.Rulings.Fresh.{fresh_ruling};
 ghost use Rattle.vl_engine_model.specs.Rulings.Install.{Installed, install_ruling};
 ghost use Rattle.vl_engine_model.specs.Rulings.Keep.{Kept, keep_ruling};
-ghost use Rattle.vl_engine_model.specs.Rulings.Pick.{pick_ruling};
-ghost use Rattle.vl_engine_model.specs.Rulings.Plan.{plan_ruling};
-ghost use Rattle.vl_engine_model.specs.Rulings.Release.{release_ruling};
-ghost use Rattle.vl_engine_model.specs.Rulings.Relocate.{relocate_ruling};
-ghost use Rattle.vl_engine_model.specs.Rulings.Rotate.{rotate_ruling};
-ghost use Rattle.vl_engine_model.specs.Rulings.Sweep.{sweep_ruling, sweep_to_ruling};
-ghost use Rattle.vl_engine_model.specs.Rulings.View.{View};
 ghost use Rattle.vl_engine_model.specs.declared.job.Job.{Job};
 ghost use Rattle.vl_engine_model.specs.declared.layout.Layout.{Layout};
+ghost use Rattle.vl_engine_model_laws.specs.Asks.{IsNoInstall, IsNoKeep};
+ghost use Rattle.vl_engine_model_laws.specs.Calls.{Call, ruling_on};
 ghost use Rattle.vl_engine_model_laws.specs.Kept.{FloorRises, IsRaisedBy, LeavesGone, LeavesKept, LowRises};
 ghost use Rattle.vl_engine_model_laws.specs.Script.{behind_the_merge};
 
@@ -37,24 +23,8 @@ pub fn an_install_tells_what_it_dropped()
     ensures refused { (l : Layout) (h : History) (job : Job) (made : Made)
         → ((install_ruling l h job made).answer ≡ Installed → ⊥)
         → LeavesGone l (install_ruling l h job made) }
-    ensures begin { (l : Layout) (h : History) → LeavesGone l (begin_ruling l h) }
-    ensures commit { (l : Layout) (h : History) (t : Transaction) → LeavesGone l (commit_ruling l h t) }
-    ensures forget { (l : Layout) (h : History) (t : Transaction) → LeavesGone l (forget_ruling l h t) }
-    ensures release { (l : Layout) (h : History) (v : View) → LeavesGone l (release_ruling l h v) }
-    ensures rotate { (l : Layout) (h : History) → LeavesGone l (rotate_ruling l h) }
-    ensures flush { (l : Layout) (h : History) → LeavesGone l (flush_ruling l h) }
-    ensures relocate { (l : Layout) (h : History) (pass : Pass) (batch : List Candidate)
-        → LeavesGone l (relocate_ruling l h pass batch) }
-    ensures plan { (l : Layout) (h : History) → LeavesGone l (plan_ruling l h) }
-    ensures drain { (l : Layout) (h : History) (segment : ℕ) → LeavesGone l (drain_ruling l h segment) }
-    ensures fresh { (l : Layout) (h : History) → LeavesGone l (fresh_ruling l h) }
-    ensures abandon { (l : Layout) (h : History) (job : Job) (made : Made)
-        → LeavesGone l (abandon_ruling l h job made) }
-    ensures pick { (l : Layout) (h : History) (percent : ℕ) → LeavesGone l (pick_ruling l h percent) }
-    ensures end_pass { (l : Layout) (h : History) (pass : Pass) → LeavesGone l (end_pass_ruling l h pass) }
-    ensures sweep { (l : Layout) (h : History) → LeavesGone l (sweep_ruling l h) }
-    ensures sweep_to { (l : Layout) (h : History) (least : ℕ) → LeavesGone l (sweep_to_ruling l h least) }
-    ensures keep { (l : Layout) (h : History) (v : ℕ) → LeavesGone l (keep_ruling l h v) }
+    ensures others { (call : Call) (l : Layout) (h : History) → IsNoInstall call
+        → LeavesGone l (ruling_on call l h) }
 {}
 
 /// A key is set by the first commit and deleted by the second, and two others are set: behind a merge of
@@ -86,71 +56,15 @@ pub fn raising_what_is_kept_tells_the_last_number()
 
 /// No other call changes how many versions are kept, or the number that was told when that was raised.
 pub fn other_calls_leave_what_is_kept()
-    ensures begin { (l : Layout) (h : History) → LeavesKept l (begin_ruling l h) }
-    ensures commit { (l : Layout) (h : History) (t : Transaction) → LeavesKept l (commit_ruling l h t) }
-    ensures forget { (l : Layout) (h : History) (t : Transaction) → LeavesKept l (forget_ruling l h t) }
-    ensures release { (l : Layout) (h : History) (v : View) → LeavesKept l (release_ruling l h v) }
-    ensures rotate { (l : Layout) (h : History) → LeavesKept l (rotate_ruling l h) }
-    ensures flush { (l : Layout) (h : History) → LeavesKept l (flush_ruling l h) }
-    ensures relocate { (l : Layout) (h : History) (pass : Pass) (batch : List Candidate)
-        → LeavesKept l (relocate_ruling l h pass batch) }
-    ensures plan { (l : Layout) (h : History) → LeavesKept l (plan_ruling l h) }
-    ensures drain { (l : Layout) (h : History) (segment : ℕ) → LeavesKept l (drain_ruling l h segment) }
-    ensures fresh { (l : Layout) (h : History) → LeavesKept l (fresh_ruling l h) }
-    ensures abandon { (l : Layout) (h : History) (job : Job) (made : Made)
-        → LeavesKept l (abandon_ruling l h job made) }
-    ensures install { (l : Layout) (h : History) (job : Job) (made : Made)
-        → LeavesKept l (install_ruling l h job made) }
-    ensures pick { (l : Layout) (h : History) (percent : ℕ) → LeavesKept l (pick_ruling l h percent) }
-    ensures end_pass { (l : Layout) (h : History) (pass : Pass) → LeavesKept l (end_pass_ruling l h pass) }
-    ensures sweep { (l : Layout) (h : History) → LeavesKept l (sweep_ruling l h) }
-    ensures sweep_to { (l : Layout) (h : History) (least : ℕ) → LeavesKept l (sweep_to_ruling l h least) }
+    ensures { (call : Call) (l : Layout) (h : History) → IsNoKeep call → LeavesKept l (ruling_on call l h) }
 {}
 
 /// The floor, which is the least number at which something live reads, or the last number, never falls.
 pub fn the_floor_never_falls()
-    ensures begin { (l : Layout) (h : History) → FloorRises l h (begin_ruling l h) }
-    ensures commit { (l : Layout) (h : History) (t : Transaction) → FloorRises l h (commit_ruling l h t) }
-    ensures forget { (l : Layout) (h : History) (t : Transaction) → FloorRises l h (forget_ruling l h t) }
-    ensures release { (l : Layout) (h : History) (v : View) → FloorRises l h (release_ruling l h v) }
-    ensures rotate { (l : Layout) (h : History) → FloorRises l h (rotate_ruling l h) }
-    ensures flush { (l : Layout) (h : History) → FloorRises l h (flush_ruling l h) }
-    ensures relocate { (l : Layout) (h : History) (pass : Pass) (batch : List Candidate)
-        → FloorRises l h (relocate_ruling l h pass batch) }
-    ensures plan { (l : Layout) (h : History) → FloorRises l h (plan_ruling l h) }
-    ensures drain { (l : Layout) (h : History) (segment : ℕ) → FloorRises l h (drain_ruling l h segment) }
-    ensures fresh { (l : Layout) (h : History) → FloorRises l h (fresh_ruling l h) }
-    ensures abandon { (l : Layout) (h : History) (job : Job) (made : Made)
-        → FloorRises l h (abandon_ruling l h job made) }
-    ensures install { (l : Layout) (h : History) (job : Job) (made : Made)
-        → FloorRises l h (install_ruling l h job made) }
-    ensures pick { (l : Layout) (h : History) (percent : ℕ) → FloorRises l h (pick_ruling l h percent) }
-    ensures end_pass { (l : Layout) (h : History) (pass : Pass) → FloorRises l h (end_pass_ruling l h pass) }
-    ensures sweep { (l : Layout) (h : History) → FloorRises l h (sweep_ruling l h) }
-    ensures sweep_to { (l : Layout) (h : History) (least : ℕ) → FloorRises l h (sweep_to_ruling l h least) }
-    ensures keep { (l : Layout) (h : History) (v : ℕ) → FloorRises l h (keep_ruling l h v) }
+    ensures { (call : Call) (l : Layout) (h : History) → FloorRises l h (ruling_on call l h) }
 {}
 
 /// The least number at which a key can be read never falls: what can't be read any more is never read again.
 pub fn what_was_dropped_is_not_read_again()
-    ensures begin { (l : Layout) (h : History) → LowRises l h (begin_ruling l h) }
-    ensures commit { (l : Layout) (h : History) (t : Transaction) → LowRises l h (commit_ruling l h t) }
-    ensures forget { (l : Layout) (h : History) (t : Transaction) → LowRises l h (forget_ruling l h t) }
-    ensures release { (l : Layout) (h : History) (v : View) → LowRises l h (release_ruling l h v) }
-    ensures rotate { (l : Layout) (h : History) → LowRises l h (rotate_ruling l h) }
-    ensures flush { (l : Layout) (h : History) → LowRises l h (flush_ruling l h) }
-    ensures relocate { (l : Layout) (h : History) (pass : Pass) (batch : List Candidate)
-        → LowRises l h (relocate_ruling l h pass batch) }
-    ensures plan { (l : Layout) (h : History) → LowRises l h (plan_ruling l h) }
-    ensures drain { (l : Layout) (h : History) (segment : ℕ) → LowRises l h (drain_ruling l h segment) }
-    ensures fresh { (l : Layout) (h : History) → LowRises l h (fresh_ruling l h) }
-    ensures abandon { (l : Layout) (h : History) (job : Job) (made : Made)
-        → LowRises l h (abandon_ruling l h job made) }
-    ensures install { (l : Layout) (h : History) (job : Job) (made : Made)
-        → LowRises l h (install_ruling l h job made) }
-    ensures pick { (l : Layout) (h : History) (percent : ℕ) → LowRises l h (pick_ruling l h percent) }
-    ensures end_pass { (l : Layout) (h : History) (pass : Pass) → LowRises l h (end_pass_ruling l h pass) }
-    ensures sweep { (l : Layout) (h : History) → LowRises l h (sweep_ruling l h) }
-    ensures sweep_to { (l : Layout) (h : History) (least : ℕ) → LowRises l h (sweep_to_ruling l h least) }
-    ensures keep { (l : Layout) (h : History) (v : ℕ) → LowRises l h (keep_ruling l h v) }
+    ensures { (call : Call) (l : Layout) (h : History) → LowRises l h (ruling_on call l h) }
 {}

@@ -10,7 +10,7 @@ ghost use Rattle.vl_model.specs.declared.change.Change.{Change};
 ghost use Rattle.vl_model.specs.declared.log_frame.Moved.{Moved};
 ghost use Rattle.vl_model.specs.declared.entry.Entry.{Entry};
 ghost use Rattle.vl_engine_model.specs.Garbage.{live_bytes, pointed_bytes};
-ghost use Rattle.vl_engine_model.specs.Jobs.{Made, AreLent, AreOutputs, lent_numbers};
+ghost use Rattle.vl_engine_model.specs.Jobs.{Made, AreOutputs};
 ghost use Rattle.vl_engine_model.specs.Levels.{is_among};
 ghost use Rattle.vl_engine_model.specs.Logs.{LogRecord, memtable};
 ghost use Rattle.vl_engine_model.specs.TidyLevels.{AreLevels};
@@ -21,23 +21,18 @@ ghost use Rattle.vl_engine_model.specs.Shows.{AreUpTo};
 ghost use Rattle.vl_engine_model.specs.declared.file_name.FileName.{FileName};
 ghost use Rattle.vl_engine_model.specs.declared.job.OpenJob.{OpenJob};
 ghost use Rattle.vl_engine_model.specs.Relocation.{Pass, Candidate, moved_of, taken_from};
-ghost use Rattle.vl_engine_model.specs.Rulings.Abandon.{abandon_ruling};
-ghost use Rattle.vl_engine_model.specs.Rulings.Begin.{begin_ruling, begun};
+ghost use Rattle.vl_engine_model.specs.Rulings.Begin.{begun};
 ghost use Rattle.vl_engine_model.specs.Rulings.Commit.{Transaction, commit_frame, commit_ruling};
 ghost use Rattle.vl_engine_model.specs.Rulings.Drain.{drain_ruling};
-ghost use Rattle.vl_engine_model.specs.Rulings.EndPass.{end_pass_ruling};
 ghost use Rattle.vl_engine_model.specs.Rulings.Flush.{flush_ruling, flushed, flushed_table};
-ghost use Rattle.vl_engine_model.specs.Rulings.Forget.{forget_ruling};
 ghost use Rattle.vl_engine_model.specs.Rulings.Fresh.{Drawn, drawn, fresh_ruling};
 ghost use Rattle.vl_engine_model.specs.Rulings.Install.{install_ruling, installed};
-ghost use Rattle.vl_engine_model.specs.Rulings.Keep.{keep_ruling, keeping};
-ghost use Rattle.vl_engine_model.specs.Rulings.Pick.{pick_ruling, with_pass};
+ghost use Rattle.vl_engine_model.specs.Rulings.Keep.{keeping};
+ghost use Rattle.vl_engine_model.specs.Rulings.Pick.{with_pass};
 ghost use Rattle.vl_engine_model.specs.Rulings.Plan.{plan_ruling};
-ghost use Rattle.vl_engine_model.specs.Rulings.Release.{release_ruling};
 ghost use Rattle.vl_engine_model.specs.Rulings.Relocate.{moves_at, relocate_ruling, relocated};
 ghost use Rattle.vl_engine_model.specs.Rulings.Rotate.{rotate_ruling, rotated};
-ghost use Rattle.vl_engine_model.specs.Rulings.Sweep.{swept, sweep_ruling, sweep_to_ruling, without_files};
-ghost use Rattle.vl_engine_model.specs.Rulings.View.{View};
+ghost use Rattle.vl_engine_model.specs.Rulings.Sweep.{swept, without_files};
 ghost use Rattle.vl_engine_model.specs.Sources.{oldest, sources, tables};
 ghost use Rattle.vl_engine_model.specs.Stock.{HaveRisen, IsLoose, IsWellStocked};
 ghost use Rattle.vl_engine_model.specs.declared.job.Job.{Job};
@@ -45,59 +40,23 @@ ghost use Rattle.vl_engine_model.specs.declared.job.Target.TheVariants.{Level, I
 ghost use Rattle.vl_engine_model.specs.declared.layout.Layout.{Layout};
 ghost use Rattle.vl_engine_model.specs.declared.segment.Segment.{Segment};
 ghost use Rattle.vl_engine_model.specs.declared.table.Table.{Table};
+ghost use Rattle.vl_engine_model_laws.specs.Asks.{AsksLevels, AsksStocked};
+ghost use Rattle.vl_engine_model_laws.specs.Calls.{Call, ruling_on};
 ghost use Rattle.vl_engine_model_laws.specs.Passes.{IsSettled, found_all};
 
 /// Whatever a call answers, retired files are needed by nothing that a pin at or above their
-/// retirement names, and each number was drawn once.
+/// retirement names, and each number was drawn once. So it is of a job, whose files have numbers that were
+/// drawn for it: from its plan to its end, with or without its switch.
 pub fn files_stay_tidy()
-    ensures begin { (l : Layout) (h : History) → IsWellStocked l → IsWellStocked (begin_ruling l h).layout }
-    ensures commit { (l : Layout) (h : History) (t : Transaction) → IsWellStocked l
-        → IsWellStocked (commit_ruling l h t).layout }
-    ensures forget { (l : Layout) (h : History) (t : Transaction) → IsWellStocked l
-        → IsWellStocked (forget_ruling l h t).layout }
-    ensures release { (l : Layout) (h : History) (v : View) → IsWellStocked l
-        → IsWellStocked (release_ruling l h v).layout }
-    ensures rotate { (l : Layout) (h : History) → IsWellStocked l → IsWellStocked (rotate_ruling l h).layout }
-    ensures flush { (l : Layout) (h : History) (level : List Table) (deeper : List (List Table))
-        → l.levels ≡ level ∷ deeper
-        → IsWellStocked l → IsWellStocked (flush_ruling l h).layout }
-    ensures pick { (l : Layout) (h : History) (percent : ℕ) → IsWellStocked l
-        → IsWellStocked (pick_ruling l h percent).layout }
-    ensures relocate { (l : Layout) (h : History) (pass : Pass) (batch : List Candidate) → IsWellStocked l
-        → IsWellStocked (relocate_ruling l h pass batch).layout }
-    ensures end_pass { (l : Layout) (h : History) (pass : Pass) → IsWellStocked l
-        → IsWellStocked (end_pass_ruling l h pass).layout }
-    ensures sweep { (l : Layout) (h : History) → IsWellStocked l → IsWellStocked (sweep_ruling l h).layout }
-    ensures sweep_to { (l : Layout) (h : History) (least : ℕ) → IsWellStocked l
-        → IsWellStocked (sweep_to_ruling l h least).layout }
-    ensures keep { (l : Layout) (h : History) (v : ℕ) → IsWellStocked l → IsWellStocked (keep_ruling l h v).layout }
-{}
-
-/// So it is of a job, whose files have numbers that were drawn for it: from its plan to its end, with
-/// or without its switch.
-pub fn jobs_leave_files_tidy()
-    ensures plan { (l : Layout) (h : History) → IsWellStocked l → IsWellStocked (plan_ruling l h).layout }
-    ensures drain { (l : Layout) (h : History) (segment : ℕ) → IsWellStocked l
-        → IsWellStocked (drain_ruling l h segment).layout }
-    ensures fresh { (l : Layout) (h : History) → IsWellStocked l → IsWellStocked (fresh_ruling l h).layout }
-    ensures abandon { (l : Layout) (h : History) (job : Job) (made : Made)
-        → AreLent (lent_numbers l.job) made → IsWellStocked l
-        → IsWellStocked (abandon_ruling l h job made).layout }
-    ensures install { (l : Layout) (h : History) (o : OpenJob) (made : Made) → l.job ≡ Some o
-        → AreLent o.lent made → AreOutputs o.job made
-        → IsOpenWell l h o.job o.moved → AreLevels l.levels → IsWellStocked l
-        → IsWellStocked (install_ruling l h o.job made).layout }
+    ensures { (call : Call) (l : Layout) (h : History) → AsksStocked call l h → IsWellStocked l
+        → IsWellStocked (ruling_on call l h).layout }
 {}
 
 /// There are seven levels, no table stands twice, ranges are true, and the tables of deeper levels lie
-/// apart, whatever a flush or an install answers; other calls don't touch levels.
+/// apart, whatever a call answers.
 pub fn levels_stay_tidy()
-    ensures flush { (l : Layout) (h : History) → IsWellStocked l → AreLevels l.levels
-        → AreLevels (flush_ruling l h).layout.levels }
-    ensures install { (l : Layout) (h : History) (o : OpenJob) (made : Made) → l.job ≡ Some o
-        → AreLent o.lent made → AreOutputs o.job made
-        → IsOpenWell l h o.job o.moved → IsWellStocked l → AreLevels l.levels
-        → AreLevels (install_ruling l h o.job made).layout.levels }
+    ensures { (call : Call) (l : Layout) (h : History) → AsksLevels call l h → IsWellStocked l → AreLevels l.levels
+        → AreLevels (ruling_on call l h).layout.levels }
 {}
 
 /// What a sweep removes is needed by no source and no pin, whether others may still look or not.
@@ -202,26 +161,7 @@ pub fn shown_from_low_stays()
 /// The numbers that may still be given don't fall, and what a call draws is the least of them: so no
 /// number is drawn twice.
 pub fn numbers_are_drawn_once()
-    ensures begin { (l : Layout) (h : History) → HaveRisen l (begin_ruling l h).layout }
-    ensures commit { (l : Layout) (h : History) (t : Transaction) → HaveRisen l (commit_ruling l h t).layout }
-    ensures forget { (l : Layout) (h : History) (t : Transaction) → HaveRisen l (forget_ruling l h t).layout }
-    ensures release { (l : Layout) (h : History) (v : View) → HaveRisen l (release_ruling l h v).layout }
-    ensures rotate { (l : Layout) (h : History) → HaveRisen l (rotate_ruling l h).layout }
-    ensures flush { (l : Layout) (h : History) → HaveRisen l (flush_ruling l h).layout }
-    ensures relocate { (l : Layout) (h : History) (pass : Pass) (batch : List Candidate)
-        → HaveRisen l (relocate_ruling l h pass batch).layout }
-    ensures plan { (l : Layout) (h : History) → HaveRisen l (plan_ruling l h).layout }
-    ensures drain { (l : Layout) (h : History) (segment : ℕ) → HaveRisen l (drain_ruling l h segment).layout }
-    ensures fresh { (l : Layout) (h : History) → HaveRisen l (fresh_ruling l h).layout }
-    ensures abandon { (l : Layout) (h : History) (job : Job) (made : Made)
-        → HaveRisen l (abandon_ruling l h job made).layout }
-    ensures install { (l : Layout) (h : History) (job : Job) (made : Made)
-        → HaveRisen l (install_ruling l h job made).layout }
-    ensures pick { (l : Layout) (h : History) (percent : ℕ) → HaveRisen l (pick_ruling l h percent).layout }
-    ensures end_pass { (l : Layout) (h : History) (pass : Pass) → HaveRisen l (end_pass_ruling l h pass).layout }
-    ensures sweep { (l : Layout) (h : History) → HaveRisen l (sweep_ruling l h).layout }
-    ensures sweep_to { (l : Layout) (h : History) (least : ℕ) → HaveRisen l (sweep_to_ruling l h least).layout }
-    ensures keep { (l : Layout) (h : History) (v : ℕ) → HaveRisen l (keep_ruling l h v).layout }
+    ensures each { (call : Call) (l : Layout) (h : History) → HaveRisen l (ruling_on call l h).layout }
     ensures rotated { (l : Layout)
         → ((rotated l).active.number ≡ l.next_log) × ((rotated l).next_log ≡ l.next_log + 1) }
     ensures flushed { (l : Layout) (s : Segment)

@@ -1,6 +1,8 @@
-use Rattle.std.proofs.Common.{refl}
+use Rattle.std.proofs.Common.{◌≡◌, refl}
 use Rattle.vl_model.specs.History.{History}
 use Rattle.vl_engine_model.specs.declared.layout.Layout.{Layout}
+use Rattle.vl_engine_model_laws.specs.Calls.{Abandon, Begin, BeginView, Commit, Drain, EndPass, Flush, Forget, Fresh}
+use Rattle.vl_engine_model_laws.specs.Calls.{Install, Keep, Pick, Plan, Release, Relocate, Rotate, Sweep, SweepTo}
 use Rattle.vl_engine_model_laws.specs.Kept.{IsKeptAs}
 use Rattle.vl_engine_model_laws.specs.laws.EachRuling.{begin_leaves, commit_leaves, drain_leaves, flush_leaves}
 use Rattle.vl_engine_model_laws.specs.laws.EachRuling.{fresh_leaves, install_leaves, pick_leaves, plan_leaves}
@@ -11,56 +13,27 @@ use Rattle.vl_engine_model_laws.proofs.kept.other_calls_leave_what_is_kept.Goals
 abbrev Same : Layout → Layout → History → Type 0
 Same l x h = IsKeptAs l x
 
-pub returns-clause-begin : goal.returns-clause-begin
-returns-clause-begin c l h = begin_leaves (Same l) l h (record { keep = refl; since = refl }) (λ few. record { keep = refl; since = refl })
+same : (l x : Layout) → x.keep ≡ l.keep → x.since ≡ l.since → IsKeptAs l x
+same l x keep since = record { keep = keep; since = since }
 
-pub returns-clause-commit : goal.returns-clause-commit
-returns-clause-commit c l h t = commit_leaves (Same l) l h (record { keep = refl; since = refl }) t
-    (record { keep = refl; since = refl }) (record { keep = refl; since = refl })
-
-pub returns-clause-forget : goal.returns-clause-forget
-returns-clause-forget c l h t = record { keep = refl; since = refl }
-
-pub returns-clause-release : goal.returns-clause-release
-returns-clause-release c l h v = record { keep = refl; since = refl }
-
-pub returns-clause-rotate : goal.returns-clause-rotate
-returns-clause-rotate c l h = rotate_leaves (Same l) l h (record { keep = refl; since = refl }) (record { keep = refl; since = refl })
-
-pub returns-clause-flush : goal.returns-clause-flush
-returns-clause-flush c l h = flush_leaves (Same l) l h (record { keep = refl; since = refl }) (λ s. record { keep = refl; since = refl })
-
-pub returns-clause-relocate : goal.returns-clause-relocate
-returns-clause-relocate c l h pass batch = relocate_leaves (Same l) l h (record { keep = refl; since = refl })
-    (λ moved. record { keep = refl; since = refl }) pass batch
-
-pub returns-clause-plan : goal.returns-clause-plan
-returns-clause-plan c l h = plan_leaves (Same l) l h (record { keep = refl; since = refl }) (λ job. record { keep = refl; since = refl })
-
-pub returns-clause-drain : goal.returns-clause-drain
-returns-clause-drain c l h segment = drain_leaves (Same l) l h (record { keep = refl; since = refl })
-    (λ job. record { keep = refl; since = refl }) segment
-
-pub returns-clause-fresh : goal.returns-clause-fresh
-returns-clause-fresh c l h = fresh_leaves (Same l) l h (record { keep = refl; since = refl }) (record { keep = refl; since = refl })
-
-pub returns-clause-abandon : goal.returns-clause-abandon
-returns-clause-abandon c l h job made = record { keep = refl; since = refl }
-
-pub returns-clause-install : goal.returns-clause-install
-returns-clause-install c l h job made = install_leaves (Same l) l h (record { keep = refl; since = refl }) job made
-    (record { keep = refl; since = refl }) (record { keep = refl; since = refl })
-
-pub returns-clause-pick : goal.returns-clause-pick
-returns-clause-pick c l h percent = pick_leaves (Same l) l h (record { keep = refl; since = refl })
-    (λ segment. record { keep = refl; since = refl }) percent
-
-pub returns-clause-end_pass : goal.returns-clause-end_pass
-returns-clause-end_pass c l h pass = record { keep = refl; since = refl }
-
-pub returns-clause-sweep : goal.returns-clause-sweep
-returns-clause-sweep c l h = sweep_leaves (Same l) l h (record { keep = refl; since = refl }) (λ gone. record { keep = refl; since = refl })
-
-pub returns-clause-sweep_to : goal.returns-clause-sweep_to
-returns-clause-sweep_to c l h least = sweep_to_leaves (Same l) l h (record { keep = refl; since = refl })
-    (λ gone. record { keep = refl; since = refl }) least
+pub returns : goal.returns
+returns c Begin l h other = begin_leaves (Same l) l h (same l _ refl refl) (λ few. same l _ refl refl)
+returns c BeginView l h other = begin_leaves (Same l) l h (same l _ refl refl) (λ few. same l _ refl refl)
+returns c (Commit t) l h other = commit_leaves (Same l) l h (same l _ refl refl) t (same l _ refl refl) (same l _ refl refl)
+returns c (Forget t) l h other = same l _ refl refl
+returns c (Release v) l h other = same l _ refl refl
+returns c Rotate l h other = rotate_leaves (Same l) l h (same l _ refl refl) (same l _ refl refl)
+returns c Flush l h other = flush_leaves (Same l) l h (same l _ refl refl) (λ s. same l _ refl refl)
+returns c (Relocate pass batch) l h other =
+    relocate_leaves (Same l) l h (same l _ refl refl) (λ moved. same l _ refl refl) pass batch
+returns c Plan l h other = plan_leaves (Same l) l h (same l _ refl refl) (λ job. same l _ refl refl)
+returns c (Drain segment) l h other = drain_leaves (Same l) l h (same l _ refl refl) (λ job. same l _ refl refl) segment
+returns c Fresh l h other = fresh_leaves (Same l) l h (same l _ refl refl) (same l _ refl refl)
+returns c (Abandon job made) l h other = same l _ refl refl
+returns c (Install job made) l h other =
+    install_leaves (Same l) l h (same l _ refl refl) job made (same l _ refl refl) (same l _ refl refl)
+returns c (Pick percent) l h other = pick_leaves (Same l) l h (same l _ refl refl) (λ segment. same l _ refl refl) percent
+returns c (EndPass pass) l h other = same l _ refl refl
+returns c Sweep l h other = sweep_leaves (Same l) l h (same l _ refl refl) (λ gone. same l _ refl refl)
+returns c (SweepTo least) l h other = sweep_to_leaves (Same l) l h (same l _ refl refl) (λ gone. same l _ refl refl) least
+returns c (Keep v) l h other = absurd other
