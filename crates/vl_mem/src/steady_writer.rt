@@ -1,29 +1,13 @@
-ghost use Rattle.std.specs.Prelude.{◌≡◌};
 ghost use Rattle.vl_mem.specs.MemDisk.{file_by};
 
 use crate::mem_writer::MemWriter;
 use vl_disk::{DiskFail, Failed, Writer};
 
-/// What writes a file that a disk in memory has lent, and never fails. It tells the file.
+/// What writes a file that a disk in memory has lent, and never fails, whatever calls the writer in it was to fail at. It
+/// tells the file.
 #[derive(Drop)]
 pub struct SteadyWriter {
-    writer: MemWriter,
-}
-
-impl SteadyWriter {
-    /// One that writes the same file, whatever calls that one was to fail at.
-    pub fn new(writer: MemWriter) -> Self
-        ensures { result.writer ≡ writer }
-    {
-        SteadyWriter { writer }
-    }
-
-    /// What the disk takes back.
-    pub fn into_writer(self) -> MemWriter
-        ensures { result ≡ self.writer }
-    {
-        self.writer
-    }
+    pub(crate) writer: MemWriter,
 }
 
 impl Writer for SteadyWriter {

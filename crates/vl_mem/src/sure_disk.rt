@@ -119,11 +119,12 @@ impl Disk for SureDisk {
     }
 
     fn lend(&mut self, name: Name) -> Result<SteadyWriter, Failed> {
-        Ok(SteadyWriter::new(self.disk.lend(name)?))
+        let writer = self.disk.lend(name)?;
+        Ok(SteadyWriter { writer })
     }
 
     fn adopt(&mut self, writer: SteadyWriter) {
-        self.disk.adopt(writer.into_writer());
+        self.disk.adopt(writer.writer);
     }
 
     fn reader(&self, _alloc: Global) -> Result<SteadyReader, NoMemory> {
