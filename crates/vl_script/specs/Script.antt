@@ -128,6 +128,22 @@ set_tagged_of words = option_map (λ w. SetTagged w.0 w.1 w.2 w.3) (with_number 
 abbrev pub scan_of : Way → List (List ℕ) → Option Line
 scan_of way words = with_number 65535 words >>= λ w. if w.3 == 0 then None else Some (Scan w.0 w.1 w.2 w.3 way)
 
+-- a line that keeps the store's files, from its command and the words behind it
+abbrev pub upkeep_of : (command : List ℕ) (words : List (List ℕ)) → Option Line
+upkeep_of command words =
+    if bytes_eq command (codes "rotate") then alone Rotate words
+    else (if bytes_eq command (codes "flush") then alone Flush words
+    else (if bytes_eq command (codes "keep") then keep_of words
+    else (if bytes_eq command (codes "plan") then option_map Plan (ident_alone words)
+    else (if bytes_eq command (codes "drain") then drain_of words
+    else (if bytes_eq command (codes "install") then option_map Install (ident_alone words)
+    else (if bytes_eq command (codes "sweep") then alone Sweep words
+    else (if bytes_eq command (codes "stats") then alone Stats words
+    else (if bytes_eq command (codes "pick") then pick_of words
+    else (if bytes_eq command (codes "batch") then option_map Batch (ident_alone words)
+    else (if bytes_eq command (codes "move") then option_map Move (ident_alone words)
+    else None))))))))))
+
 abbrev pub line_of_words : List (List ℕ) → Option Line
 line_of_words [] = None
 line_of_words (command ∷ words) =
@@ -143,18 +159,7 @@ line_of_words (command ∷ words) =
     else (if bytes_eq command (codes "del") then option_map (λ p. Delete p.0 p.1) (ident_and_key words)
     else (if bytes_eq command (codes "commit") then option_map Commit (ident_alone words)
     else (if bytes_eq command (codes "drop") then option_map Drop (ident_alone words)
-    else (if bytes_eq command (codes "rotate") then alone Rotate words
-    else (if bytes_eq command (codes "flush") then alone Flush words
-    else (if bytes_eq command (codes "keep") then keep_of words
-    else (if bytes_eq command (codes "plan") then option_map Plan (ident_alone words)
-    else (if bytes_eq command (codes "drain") then drain_of words
-    else (if bytes_eq command (codes "install") then option_map Install (ident_alone words)
-    else (if bytes_eq command (codes "sweep") then alone Sweep words
-    else (if bytes_eq command (codes "stats") then alone Stats words
-    else (if bytes_eq command (codes "pick") then pick_of words
-    else (if bytes_eq command (codes "batch") then option_map Batch (ident_alone words)
-    else (if bytes_eq command (codes "move") then option_map Move (ident_alone words)
-    else None))))))))))))))))))))))
+    else upkeep_of command words)))))))))))
 
 -- the line that these bytes are, without the line's end
 abbrev pub line_of : List ℕ → Option Line

@@ -3,7 +3,7 @@ ghost use Rattle.std.specs.List.{list_all};
 ghost use Rattle.std.specs.Option.{option_map_or};
 ghost use Rattle.vl_script.specs.Script.{longest_ident, is_ident_byte, ident_of, bytes_of, words_of, line_of};
 ghost use Rattle.vl_script.specs.Script.{alone, ident_alone, named_key, ident_and_key, ident_and_two, ident_and_number, with_number};
-ghost use Rattle.vl_script.specs.Script.{set_of, set_tagged_of, get_at_of, scan_of, keep_of, pick_of, drain_of};
+ghost use Rattle.vl_script.specs.Script.{set_of, set_tagged_of, get_at_of, scan_of, keep_of, pick_of, drain_of, upkeep_of};
 
 use crate::digits::decode;
 use crate::{Ident, Line, MAX_IDENT_BYTES, MAX_LINE_BYTES, find_byte, parse_number};
@@ -42,7 +42,20 @@ pub fn parse_line(alloc: Global, text: &[u8]) -> Result<Option<Line>, AllocError
         Ok(parse_ident_alone(alloc, rest)?.map(|name| Line::Commit { name }))
     } else if command == b"drop".as_slice() {
         Ok(parse_ident_alone(alloc, rest)?.map(|name| Line::Drop { name }))
-    } else if command == b"rotate".as_slice() {
+    } else {
+        parse_upkeep(alloc, command, rest)
+    }
+}
+
+// A line that keeps the store's files: seals, tables, merges, passes and what is removed.
+fn parse_upkeep(
+    alloc: Global,
+    command: &[u8],
+    rest: Option<&[u8]>,
+) -> Result<Option<Line>, AllocError>
+    ensures { IfOk result (λ line. line ≡ upkeep_of command.now (option_map_or (λ rest. words_of rest.now) rest.entry [])) }
+{
+    if command == b"rotate".as_slice() {
         Ok(parse_alone(rest, Line::Rotate))
     } else if command == b"flush".as_slice() {
         Ok(parse_alone(rest, Line::Flush))

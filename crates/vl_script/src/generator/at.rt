@@ -3,7 +3,7 @@
 ghost use Rattle.std.specs.Prelude.{◌+◌, ◌<◌, ◌^◌};
 
 use crate::Line;
-use crate::generator::line::{ident, next_number, scan_line, write_line};
+use crate::generator::line::{drop_line, ident, next_number, scan_line, write_line};
 use std::alloc::{AllocError, Global};
 
 // Where a generator is: at a step of a round, with so many rounds behind this one.
@@ -149,16 +149,12 @@ impl At {
             Step::Move { .. } => Line::Move {
                 name: ident(alloc, b"g")?,
             },
-            Step::EndPass => Line::Drop {
-                name: ident(alloc, b"g")?,
-            },
+            Step::EndPass => drop_line(alloc, b"g")?,
             Step::View => Line::View {
                 name: ident(alloc, b"v")?,
             },
             Step::Scan => scan_line(alloc)?,
-            Step::EndView => Line::Drop {
-                name: ident(alloc, b"v")?,
-            },
+            Step::EndView => drop_line(alloc, b"v")?,
             Step::Stats => Line::Stats,
             Step::End => return Ok(None),
         };

@@ -2,7 +2,7 @@
 
 ghost use Rattle.std.specs.Prelude.{◌≡◌, [], codes, IfOk};
 ghost use Rattle.vl_model.specs.declared.way.Way.TheVariants.{Up};
-ghost use Rattle.vl_script.specs.declared.line.Line.TheVariants.{Scan};
+ghost use Rattle.vl_script.specs.declared.line.Line.TheVariants.{Drop, Scan};
 ghost use Rattle.vl_script.specs.Generator.{key_from, next_number, value_from, write_line};
 
 use crate::{Ident, Line};
@@ -55,6 +55,15 @@ pub fn scan_line(alloc: Global) -> Result<Line, AllocError>
         high: Bytes::copy_of(alloc, &[])?,
         limit: 65535,
         way: Way::Up,
+    })
+}
+
+// The end of a view or a pass.
+pub fn drop_line(alloc: Global, name: &[u8]) -> Result<Line, AllocError>
+    ensures { IfOk result (λ line. line ≡ Drop name.now) }
+{
+    Ok(Line::Drop {
+        name: ident(alloc, name)?,
     })
 }
 
