@@ -1,4 +1,4 @@
-ghost use Rattle.std.specs.Prelude.{◌≡◌, ◌+◌, ◌≤◌, ℕ, length, Err, None, Ok, OnOk, Some};
+ghost use Rattle.std.specs.Prelude.{◌≡◌, ◌+◌, ◌≤◌, ◌∷◌, [], ℕ, length, Err, IfOk, None, Ok, OnErr, OnOk, Some};
 ghost use Rattle.vl_back.specs.Deciding.{MayFlush};
 ghost use Rattle.vl_back.specs.Writing.{KeepsOthers};
 ghost use Rattle.vl_disk.specs.Calls.{ChangesNothing};
@@ -8,7 +8,7 @@ ghost use Rattle.vl_disk.specs.declared.name.Name.TheVariants as names;
 ghost use Rattle.vl_disk.specs.declared.name.Name.{Name};
 ghost use Rattle.vl_engine_laws.specs.Carries.{Carries, StaysUntold};
 ghost use Rattle.vl_back.specs.declared.flush.StagedFlush.{StagedFlush};
-ghost use Rattle.vl_space.specs.Collecting.{Collects};
+ghost use Rattle.vl_space.specs.Collecting.{Collects, IsReadied, Keeps, LeadsFrom, idle_in};
 ghost use Rattle.vl_engine.specs.Space.{FlushesFor};
 ghost use Rattle.vl_steps.specs.Flushing.{FlushesAs, flush_effects};
 ghost use Rattle.vl_engine_laws.specs.FlushFacts.{IsFlushWritten, StopsFlushing, WritesFlush};
@@ -26,11 +26,21 @@ ghost use Rattle.vl_engine_laws.specs.Lent.{lent_in};
 ghost use Rattle.vl_engine.specs.Space.{FlushesStock};
 
 use crate::{Engine, StepFail};
-use vl_back::{Decision, StagedFlush, StagedTable, write_and_switch};
-use vl_disk::Disk;
-use vl_space::{head_of, idle_logs};
+use std::alloc::{AllocError, Global};
+use vl_back::{Decision, StagedTable, write_and_switch};
+use vl_disk::{Disk, HeldFile};
+use vl_engine_laws::Core;
+use vl_space::{Collecting, head_of, idle_logs};
+use vl_stats::LiveBytes;
 use vl_steps::{ReadyFlush, lent_count, ready_flush};
-use vl_table::Table;
+use vl_table::{Footer, Table};
+
+// The live bytes behind a flush, and the numbers of the logs of which nothing is live then.
+#[derive(Drop)]
+struct LiveBehind {
+    live: LiveBytes,
+    idle: Vec<u32>,
+}
 
 impl<D: Disk> Engine<D> {
     /// Makes a table of the memtable that has been frozen for longest, and answers with the table's number; none where none is
@@ -141,25 +151,14 @@ impl<D: Disk> Engine<D> {
             return Err(StepFail::NoMemory);
         };
         let ReadyFlush { staged, version } = ready;
-        let StagedFlush {
-            table,
-            edits,
-            state,
-        } = staged;
-        let StagedTable { bytes, shape } = table;
-        let Ok(live) = self
-            .collecting
-            .live_with(self.alloc, &self.core, &[&shape.footer], &[])
+        let StagedTable { bytes, shape } = staged.table;
+        let Ok(behind) = live_behind(self.alloc, &mut self.collecting, &self.core, &shape.footer)
         else {
             return Err(StepFail::NoMemory);
         };
-        let Ok(idle) = idle_logs(self.alloc, self.core.version.logs(), &live) else {
-            return Err(StepFail::NoMemory);
-        };
-        let Ok(()) = self
-            .removing
-            .make_room(self.alloc, &self.core, 1, lent_count(&self.merging))
-        else {
+        let LiveBehind { live, idle } = behind;
+        let lent = lent_count(&self.merging);
+        let Ok(()) = self.removing.make_room(self.alloc, &self.core, 1, lent) else {
             return Err(StepFail::NoMemory);
         };
         let number = self.core.back.state.next_table;
@@ -168,12 +167,12 @@ impl<D: Disk> Engine<D> {
             &mut self.core.back.manifest,
             number,
             &bytes,
-            &edits,
+            &staged.edits,
         ) {
             Ok(held) => {
                 let active = self.core.front.log.number;
                 self.core.version = version.with_table(Table::of(held, shape), active, &idle);
-                self.core.back.apply_flush(state);
+                self.core.back.apply_flush(staged.state);
                 let head = head_of(&self.core);
                 let version = self.core.back.epoch;
                 self.removing.switch(&[number], &[], &live, head, version);
@@ -186,4 +185,21 @@ impl<D: Disk> Engine<D> {
             }
         }
     }
+}
+
+// Takes the memory for these, where the flush's table has this footer.
+fn live_behind<H: HeldFile>(
+    alloc: Global,
+    collecting: &mut Collecting,
+    core: &Core<H>,
+    footer: &Footer,
+) -> Result<LiveBehind, AllocError>
+    ensures readied { OnOk result (IsReadied H.bytes core.now collecting.old collecting.new) }
+    ensures live { IfOk result (λ behind. LeadsFrom collecting.new.tally behind.live (footer.now.points.items ∷ []) []) }
+    ensures idle { IfOk result (λ behind. behind.idle.items ≡ idle_in behind.live core.now.version.behind.logs.items) }
+    ensures refused { OnErr result (Keeps H.bytes core.now collecting.old collecting.new) }
+{
+    let live = collecting.live_with(alloc, core, &[footer], &[])?;
+    let idle = idle_logs(alloc, core.version.logs(), &live)?;
+    Ok(LiveBehind { live, idle })
 }

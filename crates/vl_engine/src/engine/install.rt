@@ -7,7 +7,7 @@ ghost use Rattle.vl_disk.specs.DiskState.{DiskState};
 ghost use Rattle.vl_disk.specs.Faults.{HasCause, after_calls};
 ghost use Rattle.vl_disk.specs.declared.name.Name.{Name};
 ghost use Rattle.vl_engine_laws.specs.Carries.{Carries, StaysUntold};
-ghost use Rattle.vl_space.specs.Collecting.{Collects, LeadsFrom, points_in, points_made};
+ghost use Rattle.vl_space.specs.Collecting.{Collects, LeadsFrom, idle_in, points_in, points_made};
 ghost use Rattle.vl_engine.specs.Space.{InstallsFor};
 ghost use Rattle.vl_steps.specs.Installing.{HandsBack, InstallFailed, InstallLeavesDisk, InstallsAs, InstallsCore};
 ghost use Rattle.vl_steps.specs.Installing.{InstallsUnraced, IsHandedIn, IsInstallWritten, KeepsAllBut, MayInstall};
@@ -35,16 +35,23 @@ ghost use Rattle.vl_version.specs.Bases.{is_input};
 ghost use Rattle.vl_version.specs.levels.LevelsLooked.{tables_of};
 
 use crate::{Engine, InstallFail};
-use std::alloc::AllocError;
+use std::alloc::{AllocError, Global};
 use vl_compact::{Job, Parts, numbers_of};
-use vl_disk::Disk;
+use vl_disk::{Disk, HeldFile, Writer};
+use vl_engine_laws::Core;
 use vl_model::{Counter, Key};
 use vl_space::{abandon, abandon_files, head_of, idle_logs};
 use vl_stats::LiveBytes;
-use vl_steps::{
-    ReadyInstall, input_numbers, lent_count, made_numbers, ready_install, write_install,
-};
+use vl_steps::{input_numbers, lent_count, made_numbers, ready_install, write_install};
 use vl_version::Base;
+
+// The numbers of the tables that an install adds and drops, and of the logs of which nothing is live behind it.
+#[derive(Drop)]
+struct Changes {
+    added: Vec<u32>,
+    dropped: Vec<u32>,
+    idle: Vec<u32>,
+}
 
 impl<D: Disk> Engine<D> {
     /// Puts the tables of a merge, which has made all of them, into the place of its inputs, and ends it. All memory is taken
@@ -226,52 +233,37 @@ impl<D: Disk> Engine<D> {
         ensures retires { InstallsStock job self.old.core self.new.core self.old.removing self.new.removing self.new.collecting.tally
             (length (lent_in self.old.merging)) result }
     {
-        let Ok(inputs) = numbers_of(self.alloc, &job.inputs().tables) else {
-            return Err(InstallFail::NoMemory(job));
-        };
-        let Ok(dropped) = input_numbers(self.alloc, self.core.version.levels(), &inputs) else {
-            return Err(InstallFail::NoMemory(job));
-        };
-        let Ok(added) = made_numbers(self.alloc, job.made()) else {
-            return Err(InstallFail::NoMemory(job));
-        };
-        let Ok(idle) = idle_logs(self.alloc, self.core.version.logs(), &live) else {
+        let Ok(changes) = changes_of(self.alloc, &self.core, &job, &live) else {
             return Err(InstallFail::NoMemory(job));
         };
         let lent = lent_count(&self.merging);
-        let Ok(()) = self
-            .removing
-            .make_room(self.alloc, &self.core, added.len(), lent)
-        else {
+        let count = changes.added.len();
+        let Ok(()) = self.removing.make_room(self.alloc, &self.core, count, lent) else {
             return Err(InstallFail::NoMemory(job));
         };
-        let Ok(ready) = ready_install(self.alloc, &mut self.disk, &self.core, &job) else {
+        let Ok(mut ready) = ready_install(self.alloc, &mut self.disk, &self.core, &job) else {
             return Err(InstallFail::NoMemory(job));
         };
-        let ReadyInstall {
-            staged,
-            version,
-            levels,
-        } = ready;
         self.merging = None;
         self.removing.pins.merge = None;
         let Parts { made, leavings, .. } = job.into_parts();
-        let mut levels = levels;
         match write_install(
             &mut self.disk,
             &mut self.core.back.manifest,
             made,
-            &mut levels,
-            &staged.edits,
+            &mut ready.levels,
+            &ready.staged.edits,
         ) {
             Ok(()) => {
                 let active = self.core.front.log.number;
-                self.core.version = version.with_levels(levels.into_levels(), active, &idle);
-                self.core.back.apply_install(staged.state);
+                let levels = ready.levels.into_levels();
+                self.core.version = ready.version.with_levels(levels, active, &changes.idle);
+                self.core.back.apply_install(ready.staged.state);
                 let head = head_of(&self.core);
                 let version = self.core.back.epoch;
                 abandon_files(&mut self.removing.stock, Vec::new(self.alloc), leavings);
-                self.removing.switch(&added, &dropped, &live, head, version);
+                self.removing
+                    .switch(&changes.added, &changes.dropped, &live, head, version);
                 self.collecting.switch(live, head);
                 Ok(())
             }
@@ -297,4 +289,27 @@ impl<D: Disk> Engine<D> {
         let Parts { made, leavings, .. } = job.into_parts();
         abandon_files(&mut self.removing.stock, made, leavings);
     }
+}
+
+// Takes the memory for these numbers, where the job's tables are put in, and these are the live bytes behind that.
+fn changes_of<V, H: HeldFile, W: Writer>(
+    alloc: Global,
+    core: &Core<H>,
+    job: &Job<V, H, W>,
+    live: &LiveBytes,
+) -> Result<Changes, AllocError>
+    ensures added { IfOk result (λ changes. changes.added.items ≡ map (λ t. t.number) job.now.made.items) }
+    ensures dropped { IfOk result (λ changes. changes.dropped.items
+        ≡ map number_of (filter (is_input (map number_of job.now.inputs.tables.items)) (tables_of core.now.version.behind.levels))) }
+    ensures idle { IfOk result (λ changes. changes.idle.items ≡ idle_in live.now core.now.version.behind.logs.items) }
+{
+    let inputs = numbers_of(alloc, &job.inputs().tables)?;
+    let dropped = input_numbers(alloc, core.version.levels(), &inputs)?;
+    let added = made_numbers(alloc, job.made())?;
+    let idle = idle_logs(alloc, core.version.logs(), live)?;
+    Ok(Changes {
+        added,
+        dropped,
+        idle,
+    })
 }

@@ -36,7 +36,7 @@ use vl_disk::{Disk, HeldFile};
 use vl_engine_laws::Core;
 use vl_front::Front;
 use vl_pins::{Pins, Stock};
-use vl_recover::{Parts, recover};
+use vl_recover::recover;
 use vl_space::{Collecting, Removing};
 use vl_table::Table;
 use vl_version::{Level, Levels, Version};
@@ -136,46 +136,32 @@ impl<D: Disk> Engine<D> {
             → D.told disk ≡ Some state → IsRead read state → AreStrayNames read found.opening strays
             → IfErr result (λ fail. MakesSome (calls_to_open found (length strays)) (D.calls disk) (D.calls fail.disk)) }
     {
-        let deeper = match Vec::with_capacity(alloc, DEEPER_LEVELS) {
-            Ok(deeper) => deeper,
-            Err(_) => {
-                return Err(OpenFail {
-                    why: OpenError::NoMemory,
-                    disk,
-                    reader: None,
-                });
-            }
+        let Ok(deeper) = Vec::with_capacity(alloc, DEEPER_LEVELS) else {
+            return Err(OpenFail {
+                why: OpenError::NoMemory,
+                disk,
+                reader: None,
+            });
         };
         let parts = match recover(alloc, disk, room) {
             Ok(parts) => parts,
             Err(fail) => return Err(fail),
         };
-        let Parts {
-            disk,
-            room,
-            number,
-            state,
-            manifest,
-            levels,
-            frozen,
-            waiting,
-            sealed,
-            active,
-        } = parts;
-        let next_log = state.next_log.max(active.number.saturating_add(1));
-        let leveled = with_levels(levels, deeper);
+        let above = parts.active.number.saturating_add(1);
+        let next_log = parts.state.next_log.max(above);
+        let leveled = with_levels(parts.levels, deeper);
         Ok(Engine {
             alloc,
-            disk,
+            disk: parts.disk,
             core: Core {
-                version: Version::new(alloc, frozen, leveled, sealed),
-                front: Front::new(alloc, number, active, room),
+                version: Version::new(alloc, parts.frozen, leveled, parts.sealed),
+                front: Front::new(alloc, parts.number, parts.active, parts.room),
                 back: Back {
-                    manifest,
-                    state,
+                    manifest: parts.manifest,
+                    state: parts.state,
                     next_log,
                     epoch: 0,
-                    waiting,
+                    waiting: parts.waiting,
                 },
             },
             merging: None,

@@ -4,7 +4,7 @@ use Rattle.vl_space.specs.laws.CollectLaws.{keeps_readied, leads_same}
 use Rattle.vl_engine.proofs.Switching.{has_flushed}
 use Rattle.std.specs.List.{filter}
 use Rattle.vl_space.specs.laws.HeldLogs.{holds_needed}
-use Rattle.vl_space.specs.Collecting.{idle_in, points_in}
+use Rattle.vl_space.specs.Collecting.{points_in}
 use Rattle.vl_version.specs.Needed.{head_of, is_kept}
 use Rattle.vl_table.specs.declared.table.Table.{Table}
 use Rattle.vl_version.specs.levels.LevelTables.{all_tables}
@@ -82,7 +82,7 @@ invariant_of-self-in-Ok-write_and_switch g c =
           let told = g.D.Watched.told in
           let quiet = c.in-Ok.ensures.no_change.told in
           let was = there_used g.D.Watched g.D.Writer.Writer old core c.args.self.now.merging c.args.self.now.removing.stock stock
-          (stays_readied core c.args.self.now.removing.stock stock 1 c.lent_count.result c.in-Ok-make_room.ensures.readied)
+          (stays_readied core c.args.self.now.removing.stock stock 1 c.lent_count-lent.result c.in-Ok-make_room.ensures.readied)
           (c.args.self.now.there c.requires.running) in
           let free = λ (state : DiskState) (is : told old ≡ Some state). ((c.args.self.now.ready state is).steps c.requires.running).tables
           number (omega arith) in
@@ -91,7 +91,7 @@ invariant_of-self-in-Ok-write_and_switch g c =
           (c.switch.ensures.switched (kept_in room.in_use stock) (has_some stock room.in_use room.is_some))
           (keeps_switch g.D.Watched g.D.Writer.Writer new c.apply_flush.new.self.state.next_table core.front.log.number
           (numbers_left stock.trash.items) c.apply_flush.new.self.epoch []
-          (is_idle_log c.head_of-head.result c.in-Ok-live_with.live) (with_tables (number ∷ []) (kept_in room.in_use stock))
+          (is_idle_log c.head_of-head.result c.in-Ok-live_behind.behind.live) (with_tables (number ∷ []) (kept_in room.in_use stock))
           (keeps_made g.D.Watched g.D.Writer.Writer old new core.back.state.next_table c.apply_flush.new.self.state.next_table
           core.front.log.number number (kept_in room.in_use stock) (λ none. wrote.untold (quiet ∙ none))
           (λ from now was is name stands. still_but (names.Table number) (told old) (told new) from now keeps was is (free from was) name
@@ -102,9 +102,9 @@ invariant_of-self-in-Ok-write_and_switch g c =
           free (made_stands number _ _ _ (told c.ready_flush.new.disk) (told new) wrote.writes.done) was.waiting
           (λ state is. from_use core state stock room.in_use room.is_some (was.files state is))))
           was.distinct
-          (let has = (c.switch.ensures.room c.lent_count.result
-          (no_logs stock 1 1 1 c.lent_count.result c.lent_count.result refl refl room)).trash in
-          let count = c.lent_count.ensures in
+          (let has = (c.switch.ensures.room c.lent_count-lent.result
+          (no_logs stock 1 1 1 c.lent_count-lent.result c.lent_count-lent.result refl refl room)).trash in
+          let count = c.lent_count-lent.ensures in
           omega (arith, has, count));
     }
 
@@ -199,12 +199,12 @@ returns-in-Err-clause-as_flushed g c =
 pub returns-in-Ok-write_and_switch-clause-collected : goal.returns-in-Ok-write_and_switch-clause-collected
 returns-in-Ok-write_and_switch-clause-collected g c =
     let ready = c.in-Ok.ready in
-    has_flushed g.D.Held.HeldFile.bytes c.args.self.now.core _ c.args.self.now.collecting c.live_with.new.self
+    has_flushed g.D.Held.HeldFile.bytes c.args.self.now.core _ c.args.self.now.collecting c.live_behind.new.collecting
     c.switch-in-Ok-write_and_switch.new.self
-    c.of.result (ready.version.levels.newest.items ++ all_tables ready.version.levels.deeper.items) c.in-Ok-live_with.live
-    c.head_of-head.result c.in-Ok-live_with.ensures.readied
-    (leads_same c.live_with.new.self.tally c.in-Ok-live_with.live _ _ (points_in (c.of.result ∷ [])) []
-    (ap (λ (s : TableShape). s.footer.points.items ∷ []) (c.deref.ensures ∙ sym c.of.ensures.shape)) refl c.in-Ok-live_with.ensures.live)
+    c.of.result (ready.version.levels.newest.items ++ all_tables ready.version.levels.deeper.items) c.in-Ok-live_behind.behind.live
+    c.head_of-head.result c.in-Ok-live_behind.ensures.readied
+    (leads_same c.live_behind.new.collecting.tally c.in-Ok-live_behind.behind.live _ _ (points_in (c.of.result ∷ [])) []
+    (ap (λ (s : TableShape). s.footer.points.items ∷ []) (c.deref.ensures ∙ sym c.of.ensures.shape)) refl c.in-Ok-live_behind.ensures.live)
     (ap (λ (ts : List (Table g.row.D-Held.Denot)). ts ++ all_tables c.with_table.result.behind.levels.deeper.items)
     c.with_table.ensures.newest
     ∙ ap (λ (ls : Vec (List (Table g.row.D-Held.Denot)) Global).
@@ -213,25 +213,11 @@ returns-in-Ok-write_and_switch-clause-collected g c =
 
 pub returns-in-Err-clause-collected : goal.returns-in-Err-clause-collected
 returns-in-Err-clause-collected g c =
-    keeps_readied g.D.Held.HeldFile.bytes c.args.self.now.core c.args.self.now.collecting c.live_with.new.self
-    c.in-Ok-live_with.ensures.readied
+    keeps_readied g.D.Held.HeldFile.bytes c.args.self.now.core c.args.self.now.collecting c.live_behind.new.collecting
+    c.in-Ok-live_behind.ensures.readied
 
-pub invariant_of-self-in_default-live_with : goal.invariant_of-self-in_default-live_with
-invariant_of-self-in_default-live_with g c =
-    let core = c.args.self.now.core in
-    record {
-      ready = λ disk told. c.args.self.now.ready disk (sym c.in-Ok.ensures.no_change.told ∙ told);
-      numbered = c.args.self.now.numbered;
-      lent = still_lent g.D.Watched c.args.self.now.disk c.ready_flush.new.disk core.back.state.next_table core.back.state.next_table
-          c.args.self.now.merging (omega arith) c.in-Ok.ensures.lent c.args.self.now.lent;
-      known = c.args.self.now.known;
-      there = λ running. there_quiet g.D.Watched g.D.Writer.Writer c.args.self.now.disk c.ready_flush.new.disk core
-          c.args.self.now.merging c.args.self.now.removing.stock c.in-Ok.ensures.no_change.told c.in-Ok.ensures.lent
-          (c.args.self.now.there running);
-    }
-
-pub invariant_of-self-in_default-idle_logs : goal.invariant_of-self-in_default-idle_logs
-invariant_of-self-in_default-idle_logs g c =
+pub invariant_of-self-in_default-live_behind : goal.invariant_of-self-in_default-live_behind
+invariant_of-self-in_default-live_behind g c =
     let core = c.args.self.now.core in
     record {
       ready = λ disk told. c.args.self.now.ready disk (sym c.in-Ok.ensures.no_change.told ∙ told);
@@ -271,7 +257,7 @@ invariant_of-self-in_default-make_room g c =
           c.args.self.now.merging c.make_room.new.self.stock c.in-Ok.ensures.no_change.told c.in-Ok.ensures.lent
           (there_used g.D.Watched g.D.Writer.Writer c.args.self.now.disk core c.args.self.now.merging c.args.self.now.removing.stock
           c.make_room.new.self.stock (stays_either c.make_room.result core c.args.self.now.removing.stock c.make_room.new.self.stock 1
-          c.lent_count.result c.make_room.ensures.readied c.make_room.ensures.refused) (c.args.self.now.there running));
+          c.lent_count-lent.result c.make_room.ensures.readied c.make_room.ensures.refused) (c.args.self.now.there running));
     }
 
 pub write_and_switch-requires-clause-stands : goal.write_and_switch-requires-clause-stands
@@ -279,46 +265,38 @@ write_and_switch-requires-clause-stands g c disk told =
     ((c.args.self.now.ready disk (sym c.in-Ok.ensures.no_change.told ∙ told)).steps c.requires.running).manifest
 
 pub switch-requires : goal.switch-requires
-switch-requires g c = only_tables c.make_room.new.self.stock 1 1 1 c.lent_count.result refl c.in-Ok-make_room.ensures.readied.room
+switch-requires g c = only_tables c.make_room.new.self.stock 1 1 1 c.lent_count-lent.result refl c.in-Ok-make_room.ensures.readied.room
 
 pub returns-in_default-clause-retires : goal.returns-in_default-clause-retires
 returns-in_default-clause-retires g c = stays_itself c.args.self.now.core c.args.self.now.removing.stock
 
-pub returns-in_default-idle_logs-clause-retires : goal.returns-in_default-idle_logs-clause-retires
-returns-in_default-idle_logs-clause-retires g c = stays_itself c.args.self.now.core c.args.self.now.removing.stock
-
-pub returns-in_default-live_with-clause-retires : goal.returns-in_default-live_with-clause-retires
-returns-in_default-live_with-clause-retires g c = stays_itself c.args.self.now.core c.args.self.now.removing.stock
-
-pub returns-in_default-idle_logs-clause-collected : goal.returns-in_default-idle_logs-clause-collected
-returns-in_default-idle_logs-clause-collected g c =
-    keeps_readied g.D.Held.HeldFile.bytes c.args.self.now.core c.args.self.now.collecting c.live_with.new.self
-    c.in-Ok-live_with.ensures.readied
+pub returns-in_default-live_behind-clause-retires : goal.returns-in_default-live_behind-clause-retires
+returns-in_default-live_behind-clause-retires g c = stays_itself c.args.self.now.core c.args.self.now.removing.stock
 
 pub returns-in_default-make_room-clause-collected : goal.returns-in_default-make_room-clause-collected
 returns-in_default-make_room-clause-collected g c =
-    keeps_readied g.D.Held.HeldFile.bytes c.args.self.now.core c.args.self.now.collecting c.live_with.new.self
-    c.in-Ok-live_with.ensures.readied
+    keeps_readied g.D.Held.HeldFile.bytes c.args.self.now.core c.args.self.now.collecting c.live_behind.new.collecting
+    c.in-Ok-live_behind.ensures.readied
 
 pub returns-in-Err-clause-retires : goal.returns-in-Err-clause-retires
 returns-in-Err-clause-retires g c =
-    stays_readied c.args.self.now.core c.args.self.now.removing.stock c.make_room.new.self.stock 1 c.lent_count.result
+    stays_readied c.args.self.now.core c.args.self.now.removing.stock c.make_room.new.self.stock 1 c.lent_count-lent.result
     c.in-Ok-make_room.ensures.readied
 
 pub returns-in-Ok-write_and_switch-clause-retires : goal.returns-in-Ok-write_and_switch-clause-retires
 returns-in-Ok-write_and_switch-clause-retires g c =
     switches_stock c.args.self.now.core _ (c.args.self.now.core.back.state.next_table ∷ []) [] c.head_of-head.result
-    c.apply_flush.new.self.epoch _ c.lent_count.result c.in-Ok-live_with.live c.switch-in-Ok-write_and_switch.new.self.tally
+    c.apply_flush.new.self.epoch _ c.lent_count-lent.result c.in-Ok-live_behind.behind.live c.switch-in-Ok-write_and_switch.new.self.tally
     c.args.self.now.removing.stock c.make_room.new.self.stock c.switch.new.self.stock c.apply_flush.ensures.version
-    c.head_of-head.ensures (c.switch-in-Ok-write_and_switch.ensures.live c.in-Ok-live_with.ensures.readied.made)
-    c.lent_count.ensures c.in-Ok-make_room.ensures.readied c.switch.ensures.switched c.switch.ensures.room
+    c.head_of-head.ensures (c.switch-in-Ok-write_and_switch.ensures.live c.in-Ok-live_behind.ensures.readied.made)
+    c.lent_count-lent.ensures c.in-Ok-make_room.ensures.readied c.switch.ensures.switched c.switch.ensures.room
     (holds_needed g.D.Held.HeldFile.bytes c.args.self.now.core
     (record c.args.self.now.core { version = c.with_table.result; back = c.apply_flush.new.self }) c.in-Ok.ready.version.logs.items
-    (head_of c.args.self.now.core.front.log.number c.in-Ok.ready.version.frozen.items) c.head_of-head.result c.in-Ok-live_with.live
+    (head_of c.args.self.now.core.front.log.number c.in-Ok.ready.version.frozen.items) c.head_of-head.result c.in-Ok-live_behind.behind.live
     c.switch-in-Ok-write_and_switch.new.self.tally c.in-Ok.ensures.version.logs
     (c.with_table.ensures.logs ∙ ap (λ idle. filter (is_kept idle
     (head_of c.args.self.now.core.front.log.number c.in-Ok.ready.version.frozen.items) c.with_table.result.behind.levels)
     c.in-Ok.ready.version.logs.items)
-    (c.deref-in-Ok-write_and_switch.ensures.value ∙ c.in-Ok-idle_logs.ensures ∙ ap (idle_in c.in-Ok-live_with.live) c.logs.ensures))
+    (c.deref-in-Ok-write_and_switch.ensures.value ∙ c.in-Ok-live_behind.ensures.idle))
     (ap (head_of c.args.self.now.core.front.log.number) (sym c.with_table.ensures.frozen)) c.head_of-head.ensures
-    (c.switch-in-Ok-write_and_switch.ensures.live c.in-Ok-live_with.ensures.readied.made))
+    (c.switch-in-Ok-write_and_switch.ensures.live c.in-Ok-live_behind.ensures.readied.made))

@@ -20,31 +20,31 @@ use Rattle.vl_recover.specs.opening.Intact.{LeavesIntact}
 
 -- ---- where there was no memory
 
-pub returns-in-Err-clause-through : goal.returns-in-Err-clause-through
-returns-in-Err-clause-through g c state read h told durable is_read shown =
+pub returns-in_default-clause-through : goal.returns-in_default-clause-through
+returns-in_default-clause-through g c state read h told durable is_read shown =
     opening_through g.D.Watched c.args.disk c.args.disk state durable read is_read h shown
     (opens_still g.D.Watched c.args.disk g.met.D.Disk.only_now state told)
 
-pub returns-in-Err-clause-as_of : goal.returns-in-Err-clause-as_of
-returns-in-Err-clause-as_of g c state told may = opens_still g.D.Watched c.args.disk g.met.D.Disk.only_now state told
+pub returns-in_default-clause-as_of : goal.returns-in_default-clause-as_of
+returns-in_default-clause-as_of g c state told may = opens_still g.D.Watched c.args.disk g.met.D.Disk.only_now state told
 
-pub returns-in-Err-clause-stays_intact : goal.returns-in-Err-clause-stays_intact
-returns-in-Err-clause-stays_intact g c state told may intact =
+pub returns-in_default-clause-stays_intact : goal.returns-in_default-clause-stays_intact
+returns-in_default-clause-stays_intact g c state told may intact =
     waits g.D.Watched LeavesIntact g.met.D.Disk.only_now c.args.disk state told intact
 
 -- ---- where none was opened
 
-pub returns-in-Err-recover-clause-through : goal.returns-in-Err-recover-clause-through
-returns-in-Err-recover-clause-through g c state read h told durable is_read shown =
-    opening_through g.D.Watched c.args.disk c.in-Err-recover.fail.disk state durable read is_read h shown
-    (c.in-Err-recover.ensures.through state told durable.may_open)
+pub returns-in-Err-clause-through : goal.returns-in-Err-clause-through
+returns-in-Err-clause-through g c state read h told durable is_read shown =
+    opening_through g.D.Watched c.args.disk c.in-Err.fail.disk state durable read is_read h shown
+    (c.in-Err.ensures.through state told durable.may_open)
+
+pub returns-in_default-clause-unmoved : goal.returns-in_default-clause-unmoved
+returns-in_default-clause-unmoved g c some = absurd (some refl)
 
 pub returns-in-Err-clause-unmoved : goal.returns-in-Err-clause-unmoved
-returns-in-Err-clause-unmoved g c some = absurd (some refl)
-
-pub returns-in-Err-recover-clause-unmoved : goal.returns-in-Err-recover-clause-unmoved
-returns-in-Err-recover-clause-unmoved g c some =
-    let still = c.in-Err-recover.ensures.unmoved some in
+returns-in-Err-clause-unmoved g c some =
+    let still = c.in-Err.ensures.unmoved some in
     (still.told, still.calls)
 
 -- ---- where one was
@@ -70,7 +70,7 @@ invariant_of-result g c = record {
         room_is = c.new-2.ensures.log.1 ∙ c.in-Ok-recover.ensures.room;
         halted = c.new-2.ensures.log.2;
         state = refl;
-        next_log = c.max-next_log.ensures ∙ ap (max c.in-Ok-recover.parts.state.next_log) c.saturating_add.ensures;
+        next_log = c.max-next_log.ensures ∙ ap (max c.in-Ok-recover.parts.state.next_log) c.saturating_add-above.ensures;
         manifest = refl;
         epoch = refl;
         waiting = refl;
@@ -98,7 +98,7 @@ invariant_of-result g c = record {
         room_is = c.new-2.ensures.log.1 ∙ c.in-Ok-recover.ensures.room;
         halted = c.new-2.ensures.log.2;
         state = refl;
-        next_log = c.max-next_log.ensures ∙ ap (max c.in-Ok-recover.parts.state.next_log) c.saturating_add.ensures;
+        next_log = c.max-next_log.ensures ∙ ap (max c.in-Ok-recover.parts.state.next_log) c.saturating_add-above.ensures;
         manifest = refl;
         epoch = refl;
         waiting = refl;
@@ -142,7 +142,7 @@ invariant_of-result g c = record {
         room_is = c.new-2.ensures.log.1 ∙ c.in-Ok-recover.ensures.room;
         halted = c.new-2.ensures.log.2;
         state = refl;
-        next_log = c.max-next_log.ensures ∙ ap (max c.in-Ok-recover.parts.state.next_log) c.saturating_add.ensures;
+        next_log = c.max-next_log.ensures ∙ ap (max c.in-Ok-recover.parts.state.next_log) c.saturating_add-above.ensures;
         manifest = refl;
         epoch = refl;
         waiting = refl;
@@ -181,7 +181,7 @@ returns-clause-core g c state read found told is_read =
       room_is = c.new-2.ensures.log.1 ∙ c.in-Ok-recover.ensures.room;
       halted = c.new-2.ensures.log.2;
       state = refl;
-      next_log = c.max-next_log.ensures ∙ ap (max c.in-Ok-recover.parts.state.next_log) c.saturating_add.ensures;
+      next_log = c.max-next_log.ensures ∙ ap (max c.in-Ok-recover.parts.state.next_log) c.saturating_add-above.ensures;
       manifest = refl;
       epoch = refl;
       waiting = refl;
@@ -214,7 +214,7 @@ returns-clause-stands g c state read found h told is_read shown =
       room_is = c.new-2.ensures.log.1 ∙ c.in-Ok-recover.ensures.room;
       halted = c.new-2.ensures.log.2;
       state = refl;
-      next_log = c.max-next_log.ensures ∙ ap (max c.in-Ok-recover.parts.state.next_log) c.saturating_add.ensures;
+      next_log = c.max-next_log.ensures ∙ ap (max c.in-Ok-recover.parts.state.next_log) c.saturating_add-above.ensures;
       manifest = refl;
       epoch = refl;
       waiting = refl;
@@ -248,7 +248,7 @@ returns-clause-back g c state read found told is_read =
       room_is = c.new-2.ensures.log.1 ∙ c.in-Ok-recover.ensures.room;
       halted = c.new-2.ensures.log.2;
       state = refl;
-      next_log = c.max-next_log.ensures ∙ ap (max c.in-Ok-recover.parts.state.next_log) c.saturating_add.ensures;
+      next_log = c.max-next_log.ensures ∙ ap (max c.in-Ok-recover.parts.state.next_log) c.saturating_add-above.ensures;
       manifest = refl;
       epoch = refl;
       waiting = refl;
@@ -282,7 +282,7 @@ returns-clause-represents g c state read found h told may is_read shown =
       room_is = c.new-2.ensures.log.1 ∙ c.in-Ok-recover.ensures.room;
       halted = c.new-2.ensures.log.2;
       state = refl;
-      next_log = c.max-next_log.ensures ∙ ap (max c.in-Ok-recover.parts.state.next_log) c.saturating_add.ensures;
+      next_log = c.max-next_log.ensures ∙ ap (max c.in-Ok-recover.parts.state.next_log) c.saturating_add-above.ensures;
       manifest = refl;
       epoch = refl;
       waiting = refl;

@@ -3,17 +3,13 @@ use Rattle.vl_compact.specs.Laid.{AreLevelsOf}
 use Rattle.vl_disk.specs.declared.name.Name.TheVariants as names
 use Rattle.vl_steps.specs.laws.HandedIn.{made_given, may_take_all}
 use Rattle.vl_space.specs.laws.HeldLogs.{holds_needed}
-use Rattle.vl_space.specs.Collecting.{idle_in}
 use Rattle.vl_engine_laws.specs.laws.InstallDiskEdits.{install_next}
 use Rattle.vl_steps.specs.laws.Lending.{leaves_told, no_manifest, still_lent}
 use Rattle.std.specs.List.{filter}
 use Rattle.std.specs.Prelude.{None, length, map, ◌++◌}
 use Rattle.vl_pins.specs.Files.{BecomesBy, HasRoom}
 use Rattle.vl_pins.specs.declared.pins.Pins.{Pins}
-use Rattle.vl_table.specs.Tables.{number_of}
-use Rattle.vl_version.specs.Bases.{is_input}
 use Rattle.vl_version.specs.Needed.{head_of, is_kept}
-use Rattle.vl_version.specs.levels.LevelsLooked.{tables_of}
 use Rattle.vl_engine.proofs.PutLeft.{free_of, off_left, put_into, room_put, there_others}
 use Rattle.vl_engine.proofs.PutThere.{there_put}
 use Rattle.vl_space.specs.Retiring.{LeavesFiles, is_idle_log, left_of, switching}
@@ -66,15 +62,6 @@ invariant_of-self-in_default-make_room g c =
 
 pub returns-in_default-clause-retires : goal.returns-in_default-clause-retires
 returns-in_default-clause-retires g c = (refl, stays_itself c.args.self.now.core c.args.self.now.removing.stock)
-
-pub returns-in_default-input_numbers-clause-retires : goal.returns-in_default-input_numbers-clause-retires
-returns-in_default-input_numbers-clause-retires g c = (refl, stays_itself c.args.self.now.core c.args.self.now.removing.stock)
-
-pub returns-in_default-idle_logs-clause-retires : goal.returns-in_default-idle_logs-clause-retires
-returns-in_default-idle_logs-clause-retires g c = (refl, stays_itself c.args.self.now.core c.args.self.now.removing.stock)
-
-pub returns-in_default-made_numbers-clause-retires : goal.returns-in_default-made_numbers-clause-retires
-returns-in_default-made_numbers-clause-retires g c = (refl, stays_itself c.args.self.now.core c.args.self.now.removing.stock)
 
 -- what is asked before it is written
 
@@ -139,11 +126,11 @@ invariant_of-self-in-Ok-write_install g c =
           (subst (λ ls. LeavesFiles (map left_of c.new.result.items ++ ls.items) c.make_room.new.self.stock c.abandon_files.new.stock)
           c.into_parts-made.ensures.leavings c.abandon_files.ensures) made_room) c.in-Ok-make_room.ensures.readied.room.in_use
           (c.abandon_files.ensures.in_use ∙ c.in-Ok-make_room.ensures.readied.room.is_some)
-          c.apply_install.new.self.epoch c.deref-in-Ok-write_install-3.result.now
+          c.apply_install.new.self.epoch c.deref-in-Ok-write_install-2.result.now
           (is_idle_log c.head_of-head.result c.args.live)
-          (subst (λ ns. BecomesBy (switching c.apply_install.new.self.epoch ns c.deref-in-Ok-write_install-3.result.now
+          (subst (λ ns. BecomesBy (switching c.apply_install.new.self.epoch ns c.deref-in-Ok-write_install-2.result.now
           (is_idle_log c.head_of-head.result c.args.live)) c.abandon_files.new.stock c.switch.new.self.stock)
-          (c.deref-in-Ok-write_install-2.ensures.value ∙ c.in-Ok-made_numbers.ensures ∙ ap (map (λ t. t.number)) c.made.ensures)
+          (c.deref-in-Ok-write_install.ensures.value ∙ c.in-Ok.ensures.added)
           c.switch.ensures.switched)
           (there_others g.D.Watched c.args.self.now.disk c.args.self.now.core c.args.self.now.merging c.args.job c.requires.handed
           c.new.result
@@ -179,14 +166,14 @@ returns-in-Ok-write_install-clause-as_installed g c =
       };
       active = c.with_levels.ensures.active;
       frozen = c.with_levels.ensures.frozen;
-      idle = c.deref-in-Ok-write_install.result.now;
+      idle = c.deref.result.now;
       logs = c.with_levels.ensures.logs
-          ∙ ap (λ lv. filter (is_kept c.deref-in-Ok-write_install.result.now (head_of core.front.log.number ready.version.frozen.items) lv)
+          ∙ ap (λ lv. filter (is_kept c.deref.result.now (head_of core.front.log.number ready.version.frozen.items) lv)
           ready.version.logs.items)
           (sym c.with_levels.ensures.levels);
       put = λ target inputs first ls new_ones are begins.
           subst (λ lv. AreLevelsOf bytes lv (replaced target inputs new_ones ls)) (sym c.with_levels.ensures.levels)
-          (c.into_levels.ensures target inputs first ls new_ones are begins);
+          (c.into_levels-levels.ensures target inputs first ls new_ones are begins);
     }
 
 -- it failed
@@ -252,10 +239,10 @@ switch-requires g c =
     c.new.ensures.items c.make_room.new.self.stock c.abandon_files.new.stock
     (subst (λ ls. LeavesFiles (map left_of c.new.result.items ++ ls.items) c.make_room.new.self.stock c.abandon_files.new.stock)
     c.into_parts-made.ensures.leavings c.abandon_files.ensures)
-    (length c.deref-in-Ok-write_install-2.result.now) c.lent_count-lent.result c.lent_count-lent.ensures
+    (length c.deref-in-Ok-write_install.result.now) c.lent_count-lent.result c.lent_count-lent.ensures
     (subst (λ n. HasRoom c.make_room.new.self.stock n 1 c.lent_count-lent.result)
-    (let a = c.len.ensures in let b = c.in-Ok-made_numbers.added.ok.0 in
-    let d = ap length c.deref-in-Ok-write_install-2.ensures.value in omega (arith, a, b, d))
+    (let a = c.len-count.ensures in let b = c.in-Ok.changes.added.ok.0 in
+    let d = ap length c.deref-in-Ok-write_install.ensures.value in omega (arith, a, b, d))
     c.in-Ok-make_room.ensures.readied.room)
 
 pub returns-in-Ok-write_install-clause-cause : goal.returns-in-Ok-write_install-clause-cause
@@ -269,18 +256,15 @@ returns-in-Ok-write_install-clause-retires g c = (
       c.new.ensures.items c.make_room.new.self.stock c.abandon_files.new.stock
       (subst (λ ls. LeavesFiles (map left_of c.new.result.items ++ ls.items) c.make_room.new.self.stock c.abandon_files.new.stock)
       c.into_parts-made.ensures.leavings c.abandon_files.ensures)
-      c.args.self.now.core _ c.deref-in-Ok-write_install-2.result.now c.deref-in-Ok-write_install-3.result.now c.head_of-head.result
-      c.apply_install.new.self.epoch c.len.result c.lent_count-lent.result c.args.live c.switch-in-Ok-write_install.new.self.tally
+      c.args.self.now.core _ c.deref-in-Ok-write_install.result.now c.deref-in-Ok-write_install-2.result.now c.head_of-head.result
+      c.apply_install.new.self.epoch c.len-count.result c.lent_count-lent.result c.args.live c.switch-in-Ok-write_install.new.self.tally
       c.args.self.now.removing.stock c.switch.new.self.stock
-      (c.deref-in-Ok-write_install-2.ensures.value ∙ c.in-Ok-made_numbers.ensures ∙ ap (map (λ t. t.number)) c.made.ensures)
-      (c.deref-in-Ok-write_install-3.ensures.value ∙ c.in-Ok-input_numbers.ensures
-      ∙ ap (λ ns. map number_of (filter (is_input ns) (tables_of c.levels.result.now)))
-      (c.deref-2.ensures.value ∙ c.in-Ok.ensures ∙ ap (map number_of) (c.deref.ensures.value ∙ ap (λ i. i.tables.items) c.inputs.ensures))
-      ∙ ap (λ lv. map number_of (filter (is_input (map number_of c.args.job.inputs.tables.items)) (tables_of lv))) c.levels.ensures)
+      (c.deref-in-Ok-write_install.ensures.value ∙ c.in-Ok.ensures.added)
+      (c.deref-in-Ok-write_install-2.ensures.value ∙ c.in-Ok.ensures.dropped)
       c.apply_install.ensures.version c.head_of-head.ensures
       (c.switch-in-Ok-write_install.ensures.live c.requires.tallied)
-      (let a = c.len.ensures in let b = c.in-Ok-made_numbers.added.ok.0 in
-      let d = ap length c.deref-in-Ok-write_install-2.ensures.value in omega (arith, a, b, d)) c.lent_count-lent.ensures
+      (let a = c.len-count.ensures in let b = c.in-Ok.changes.added.ok.0 in
+      let d = ap length c.deref-in-Ok-write_install.ensures.value in omega (arith, a, b, d)) c.lent_count-lent.ensures
       c.in-Ok-make_room.ensures.readied c.switch.ensures.switched
       (holds_needed g.D.Held.HeldFile.bytes c.args.self.now.core
       (record c.args.self.now.core { version = c.with_levels.result; back = c.apply_install.new.self })
@@ -288,13 +272,13 @@ returns-in-Ok-write_install-clause-retires g c = (
       (head_of c.args.self.now.core.front.log.number c.in-Ok-ready_install.ready.version.frozen.items) c.head_of-head.result c.args.live
       c.switch-in-Ok-write_install.new.self.tally c.in-Ok-ready_install.ensures.ready.version.logs
       (c.with_levels.ensures.logs
-      ∙ ap (λ lv. filter (is_kept c.deref-in-Ok-write_install.result.now
+      ∙ ap (λ lv. filter (is_kept c.deref.result.now
       (head_of c.args.self.now.core.front.log.number c.in-Ok-ready_install.ready.version.frozen.items) lv)
       c.in-Ok-ready_install.ready.version.logs.items) (sym c.with_levels.ensures.levels)
       ∙ ap (λ idle. filter (is_kept idle
       (head_of c.args.self.now.core.front.log.number c.in-Ok-ready_install.ready.version.frozen.items)
       c.with_levels.result.behind.levels) c.in-Ok-ready_install.ready.version.logs.items)
-      (c.deref-in-Ok-write_install.ensures.value ∙ c.in-Ok-idle_logs.ensures ∙ ap (idle_in c.args.live) c.logs.ensures))
+      (c.deref.ensures.value ∙ c.in-Ok.ensures.idle))
       (ap (head_of c.args.self.now.core.front.log.number) (sym c.with_levels.ensures.frozen)) c.head_of-head.ensures
       (c.switch-in-Ok-write_install.ensures.live c.requires.tallied)),
 )
