@@ -7,8 +7,8 @@ use Rattle.vl_table.specs.CursorLeft.{cursor_budget, cursor_left}
 use Rattle.vl_table.specs.CursorParts.{MayFailOn}
 use Rattle.vl_disk.specs.declared.read_fault.ReadFault.{ReadFault}
 use Rattle.vl_disk.specs.declared.read_fault.ReadFault.TheVariants.{NoMemory}
-use Rattle.vl_disk_tests.specs.declared.source.Source.{Source}
-use Rattle.vl_disk_tests.specs.declared.source.Source.TheVariants.{Memory, Table}
+use Rattle.vl_table_tests.specs.declared.source.Source.{Source}
+use Rattle.vl_table_tests.specs.declared.source.Source.TheVariants.{Memory, Table}
 
 module _ {H R : Type 0} {g : HeldFile.Ghosts H} {k : Clone.Ghosts H} where
   abbrev pub source_left : (H → Option (List ℕ)) → Source H R g k → Option (List Entry)

@@ -1,7 +1,7 @@
 //! Cursors over memory and over tables as one type, for a merge that holds both.
 
 ghost use Rattle.vl_table.specs.CursorParts.{is_disk_fault};
-ghost use Rattle.vl_disk_tests.specs.Sources.{SourceMayFail, source_budget, source_left};
+ghost use Rattle.vl_table_tests.specs.Sources.{SourceMayFail, source_budget, source_left};
 
 use vl_disk::{HeldFile, ReadFault, Reader};
 use vl_memtable::RunCursor;
