@@ -96,3 +96,26 @@ fn another_file_is_no_hit(rt: HostRuntime) -> Result<(), Fail> {
     assert!(rt; reads(&mut cache, &one, &[(100, None)]));
     Ok(())
 }
+
+// Whether a read of so many bytes is answered again without the reader below, of which the second call fails.
+fn is_kept(alloc: Global, len: usize) -> Result<bool, Fail> {
+    let held = MemHeld::new(alloc, Name::Table(1), vec![in alloc; 7; 10_000]?);
+    let mut out = vec![in alloc; 0; len]?;
+    if held.len() < out.len() as u64 {
+        return Ok(false);
+    }
+    let plan = FaultPlan::new(Vec::from_slice(alloc, &[2])?);
+    let mut cache = Cached::new(alloc, MemReader::new(plan), 2)?;
+    if cache.read(&held, 0, out.as_mut_slice()).is_err() {
+        return Ok(false);
+    }
+    Ok(cache.read(&held, 0, out.as_mut_slice()).is_ok())
+}
+
+#[test]
+fn reads_of_up_to_8192_bytes_are_kept(rt: HostRuntime) -> Result<(), Fail> {
+    assert!(rt; is_kept(rt.alloc(), 4190)?);
+    assert!(rt; is_kept(rt.alloc(), 8192)?);
+    assert!(rt; !is_kept(rt.alloc(), 8193)?);
+    Ok(())
+}
