@@ -4,6 +4,7 @@ ghost use Rattle.vl_mem.specs.FailsPast.{FailsPast};
 
 use crate::held::MemHeld;
 use crate::mem_disk::MemDisk;
+use crate::outcome::Outcome;
 use crate::steady_reader::SteadyReader;
 use crate::steady_writer::SteadyWriter;
 use std::alloc::Global;
@@ -18,8 +19,11 @@ pub struct SureDisk {
 }
 
 impl SureDisk {
-    ghost use Rattle.std.specs.Prelude.{◌≡◌};
+    ghost use Rattle.std.specs.Prelude.{◌≡◌, IfOk};
+    ghost use Rattle.vl_disk.specs.Crash.{MayLeave};
     ghost use Rattle.vl_disk.specs.DiskState.{empty_disk};
+    ghost use Rattle.vl_disk.specs.Started.{Started};
+    ghost use Rattle.vl_mem.specs.CrashImage.{crash_image};
     ghost use Rattle.vl_mem.specs.SureDisk.{calls_on, state_on};
 
     /// An empty disk.
@@ -30,6 +34,17 @@ impl SureDisk {
         SureDisk {
             disk: MemDisk::new(alloc, Vec::new(alloc), Vec::new(alloc)),
         }
+    }
+
+    /// A disk that was just started from what a crash of this one leaves, and never fails either. Its count begins anew.
+    /// Where memory runs out, nothing is left of either.
+    pub fn crash(self, outcome: Outcome) -> Result<SureDisk, NoMemory>
+        ensures started { IfOk result (λ disk. Started (crash_image outcome (state_on self)) (state_on disk)) }
+        ensures left { MayLeave (state_on self) (crash_image outcome (state_on self)) }
+        ensures calls { IfOk result (λ disk. calls_on disk ≡ 0) }
+    {
+        let disk = self.disk.crash(outcome)?;
+        Ok(SureDisk { disk })
     }
 }
 
