@@ -3,10 +3,11 @@ use Rattle.std.proofs.Common.{◌≡◌, inl, inr, ℕ, suc, ◌+◌, ◌^◌, �
 use Rattle.std.proofs.lemmas.Bool.{false≢true}
 use Rattle.std.specs.Prelude.{IfErr, IfOk, OnOk, Option, None, Some, Result, Ok, Err, slice_index_or}
 use Rattle.std.specs.List.{AllByRecursion, AllZip}
+use Rattle.vl_drive.proofs.Meeting.{met_less}
 use Rattle.vl_drive.proofs.Modesty.{idle_modest, idle_new, modest_more}
 use Rattle.vl_drive.proofs.Playing.{on_itself, on_then, trouble_since}
 use Rattle.atomic_table.specs.Seated.{TableId}
-use Rattle.vl_drive.specs.Clients.{AreDriven, HasOpened, HasPlayed, IsNewAt, count_all}
+use Rattle.vl_drive.specs.Clients.{AreDriven, AreDrivenBehind, HasMet, HasOpened, HasPlayed, IsNewAt, count_all}
 use Rattle.vl_drive.specs.Knowing.{GoesOn, Knows}
 use Rattle.vl_drive.specs.Modest.{AreModest, IsModest}
 use Rattle.vl_drive.specs.Numbers.{transfer_in}
@@ -22,6 +23,7 @@ use Rattle.vl_drive.specs.declared.trouble.Cause.{Cause}
 use Rattle.vl_drive.specs.declared.trouble.Cause.TheVariants as cause
 use Rattle.vl_drive.specs.declared.trouble.Trouble.{Trouble}
 use Rattle.vl_drive.specs.declared.trouble.Trouble.TheVariants as trouble
+use Rattle.vl_engine_model.specs.declared.lock_history.LockEntry.{LockEntry}
 
 -- ---- lists
 
@@ -62,7 +64,7 @@ module _ {S : Type 0} (knows : S → Knows) where
   cause_last why [] v x is = inl is
   cause_last why (y ∷ ys) v x is = inr (cause_last why ys v x is)
 
-module _ {S : Type 0} (knows : S → Knows) (txns seed : ℕ) where
+module _ {S : Type 0} (knows : S → Knows) (txns seed : ℕ) (note : List LockEntry) where
   none_left : (ps : List (Player S)) (last : Player S) → AllZip (HasActed knows txns seed) (ps ++ last ∷ []) [] → ⊥
   none_left [] last zip = zip
   none_left (p ∷ ps) last zip = zip
@@ -70,7 +72,7 @@ module _ {S : Type 0} (knows : S → Knows) (txns seed : ℕ) where
   -- ---- all go on
 
   pub all_on : (client : ℕ) (vs : List Knows) (v : Knows) (ps : List (Player S)) (last : Player S) (qs : List (Player S))
-      → AreSeated knows client vs ps → KeepsUp knows v last → AllZip (HasActed knows txns seed) (ps ++ last ∷ []) qs
+      → AreSeated knows note client vs ps → KeepsUp knows note v last → AllZip (HasActed knows txns seed) (ps ++ last ∷ []) qs
       → AllZip GoesOn (vs ++ v ∷ []) (known knows qs)
   all_on client [] v [] last [] seated keeps zip = absurd zip
   all_on client [] v [] last (q ∷ []) seated keeps zip = (on_then v (knows last.shop) (knows q.shop) keeps.on zip.0.on, tt)
@@ -84,7 +86,7 @@ module _ {S : Type 0} (knows : S → Knows) (txns seed : ℕ) where
   -- ---- all are modest
 
   pub all_modest : (client : ℕ) (vs : List Knows) (v : Knows) (ps : List (Player S)) (last : Player S) (qs : List (Player S))
-      → AreSeated knows client vs ps → KeepsUp knows v last → AllZip (HasActed knows txns seed) (ps ++ last ∷ []) qs
+      → AreSeated knows note client vs ps → KeepsUp knows note v last → AllZip (HasActed knows txns seed) (ps ++ last ∷ []) qs
       → AreModest txns (known knows qs)
   all_modest client [] v [] last [] seated keeps zip = absurd zip
   all_modest client [] v [] last (q ∷ []) seated keeps zip =
@@ -100,36 +102,41 @@ module _ {S : Type 0} (knows : S → Knows) (txns seed : ℕ) where
 
   -- the clients have played, and the counts are theirs
   abbrev Plays : (client : ℕ) → List (Player S) → Type 0
-  Plays client qs = AreDriven seed txns client (known knows qs) × (all_commits qs ≡ count_all is_put (known knows qs))
+  Plays client qs = AreDrivenBehind note seed txns client (known knows qs) × (all_commits qs ≡ count_all is_put (known knows qs))
       × (all_conflicts qs ≡ count_all is_ended (known knows qs))
 
-  last_plays : (client : ℕ) (v : Knows) (p q : Player S) → KeepsUp knows v p → HasActed knows txns seed p q
+  last_plays : (client : ℕ) (v : Knows) (p q : Player S) → KeepsUp knows note v p → HasActed knows txns seed p q
       → is_done q.end ≡ true → Plays client (q ∷ [])
   last_plays client v p q keeps acted well =
-      let x = score_of (λ (s : Score). (s.commits ≡ 0) × (s.conflicts ≡ 0) × HasOpened (knows q.shop)) q.end well
-      (acted.kept_up keeps.keeps keeps.opened) in
+      let x = score_of (λ (s : Score). (s.commits ≡ 0) × (s.conflicts ≡ 0) × HasOpened note (knows q.shop)) q.end well
+      (acted.kept_up keeps.keeps note keeps.opened) in
       let commits = ap commits_of x.1 in
       let conflicts = ap conflicts_of x.1 in
       let none = x.2.0 in
       let none_too = x.2.1 in
       (x.2.2, omega (arith, commits, none), omega (arith, conflicts, none_too))
 
-  one_plays : (client : ℕ) (v : Knows) (p q r : Player S) (qs : List (Player S)) → IsSeated knows client v p
+  one_plays : (client : ℕ) (v : Knows) (p q r : Player S) (qs : List (Player S)) → IsSeated knows note client v p
       → HasActed knows txns seed p q → is_done q.end ≡ true → Plays (client + 1) (r ∷ qs) → Plays client (q ∷ r ∷ qs)
   one_plays client v p q r qs seat acted well rest =
       let x = score_of (λ (s : Score). HasScored (transfer_in seed p.client) txns s.commits s.conflicts (knows q.shop)) q.end well
       (acted.played seat.plays seat.own) in
+      let met = score_of (λ (s : Score). HasMet (knows p.shop).seen (knows q.shop)) q.end well (acted.met seat.plays seat.own) in
       let commits = ap commits_of x.1 ∙ x.2.commits_are in
       let conflicts = ap conflicts_of x.1 ∙ x.2.conflicts_are in
       let commits_too = rest.1 in
       let conflicts_too = rest.2 in (
-        (subst (λ c. HasPlayed (transfer_in seed c) txns (knows q.shop)) seat.number x.2.played, rest.0),
+        (
+          subst (λ c. HasPlayed (transfer_in seed c) txns (knows q.shop)) seat.number x.2.played,
+          met_less note (knows p.shop).seen (knows q.shop) seat.met met.2,
+          rest.0,
+        ),
         omega (arith, commits, commits_too),
         omega (arith, conflicts, conflicts_too),
       )
 
   pub all_play : (client : ℕ) (vs : List Knows) (v : Knows) (ps : List (Player S)) (last : Player S) (qs : List (Player S))
-      → AreSeated knows client vs ps → KeepsUp knows v last → AllZip (HasActed knows txns seed) (ps ++ last ∷ []) qs
+      → AreSeated knows note client vs ps → KeepsUp knows note v last → AllZip (HasActed knows txns seed) (ps ++ last ∷ []) qs
       → AllByRecursion (λ (q : Player S). is_done q.end ≡ true) qs → Plays client qs
   all_play client [] v [] last [] seated keeps zip well = absurd zip
   all_play client [] v [] last (q ∷ []) seated keeps zip well = last_plays client v last q keeps zip.0 well.0
@@ -150,7 +157,7 @@ module _ {S : Type 0} (knows : S → Knows) (txns seed : ℕ) where
       (trouble_of (IsTrouble (knows p.shop) (knows q.shop)) q.end (trouble.Stopped why) is acted.trouble)
 
   pub one_stops : (why : Cause) (client : ℕ) (vs : List Knows) (v : Knows) (ps : List (Player S)) (last : Player S) (qs : List (Player S))
-      → AreSeated knows client vs ps → KeepsUp knows v last → AllZip (HasActed knows txns seed) (ps ++ last ∷ []) qs
+      → AreSeated knows note client vs ps → KeepsUp knows note v last → AllZip (HasActed knows txns seed) (ps ++ last ∷ []) qs
       → HasEnd (trouble.Stopped why) qs → IsCauseOfOne why (vs ++ v ∷ []) (known knows qs)
   one_stops why client [] v [] last [] seated keeps zip has = absurd zip
   one_stops why client [] v [] last (q ∷ []) seated keeps zip (inl is) = inl (cause_of why v last q keeps.on zip.0 is)
@@ -166,21 +173,22 @@ module _ {S : Type 0} (knows : S → Knows) (txns seed : ℕ) where
 
 -- ---- one more
 
-module _ {S : Type 0} (knows : S → Knows) where
-  pub seated_more : (client : ℕ) (vs : List Knows) (ps : List (Player S)) (v : Knows) (p : Player S) → AreSeated knows client vs ps
-      → IsSeated knows (client + length vs) v p → AreSeated knows client (vs ++ v ∷ []) (ps ++ p ∷ [])
-  seated_more client [] [] v p seated seat = (subst (λ n. IsSeated knows n v p) (omega arith) seat, tt)
+module _ {S : Type 0} (knows : S → Knows) (note : List LockEntry) where
+  pub seated_more : (client : ℕ) (vs : List Knows) (ps : List (Player S)) (v : Knows) (p : Player S)
+      → AreSeated knows note client vs ps → IsSeated knows note (client + length vs) v p
+      → AreSeated knows note client (vs ++ v ∷ []) (ps ++ p ∷ [])
+  seated_more client [] [] v p seated seat = (subst (λ n. IsSeated knows note n v p) (omega arith) seat, tt)
   seated_more client [] (q ∷ ps) v p seated seat = absurd seated
   seated_more client (u ∷ vs) [] v p seated seat = absurd seated
   seated_more client (u ∷ vs) (q ∷ ps) v p seated seat =
-      (seated.0, seated_more (client + 1) vs ps v p seated.1 (subst (λ n. IsSeated knows n v p) (omega arith) seat))
+      (seated.0, seated_more (client + 1) vs ps v p seated.1 (subst (λ n. IsSeated knows note n v p) (omega arith) seat))
 
-pub seated_length : {S : Type 0} (knows : S → Knows) (client : ℕ) (vs : List Knows) (ps : List (Player S)) → AreSeated knows client vs ps
-    → length ps ≡ length vs
-seated_length knows client [] [] seated = refl
-seated_length knows client [] (p ∷ ps) seated = absurd seated
-seated_length knows client (v ∷ vs) [] seated = absurd seated
-seated_length knows client (v ∷ vs) (p ∷ ps) seated = ap suc (seated_length knows (client + 1) vs ps seated.1)
+  pub seated_length : (client : ℕ) (vs : List Knows) (ps : List (Player S)) → AreSeated knows note client vs ps
+      → length ps ≡ length vs
+  seated_length client [] [] seated = refl
+  seated_length client [] (p ∷ ps) seated = absurd seated
+  seated_length client (v ∷ vs) [] seated = absurd seated
+  seated_length client (v ∷ vs) (p ∷ ps) seated = ap suc (seated_length (client + 1) vs ps seated.1)
 
 module _ {S : Type 0} where
   pub commits_more : (ps : List (Player S)) (p : Player S) → all_commits (ps ++ p ∷ []) ≡ all_commits ps + commits_of p.end
@@ -251,6 +259,11 @@ modest_last knows turns (y ∷ ys) x all is = (all.0, modest_last knows turns ys
 
 -- ---- behind them
 
+-- all have driven, and the counts are theirs
+abbrev pub HaveDriven : {S : Type 0} (knows : S → Knows) (txns seed : ℕ) → List (Player S) → Type 0
+HaveDriven knows txns seed qs = AreDriven seed txns (known knows qs) × (all_commits qs ≡ count_all is_put (known knows qs))
+    × (all_conflicts qs ≡ count_all is_ended (known knows qs))
+
 few_end : (txns : ℕ) → txns < 2 ^ 32 → (end : Result Score Trouble) → IfOk end (λ (s : Score). s.commits + s.conflicts ≤ txns)
     → commits_of end + conflicts_of end < 2 ^ 32
 few_end txns fits (Ok score) count = omega (arith, fits, count)
@@ -266,7 +279,7 @@ all_few knows txns seed (p ∷ ps) (q ∷ qs) fits zip =
 
 module _ {S : Type 0} (knows : S → Knows) (txns seed : ℕ) (vs : List Knows) (v u : Knows) (on : GoesOn v u)
     (ps qs : List (Player S)) (ready : AreReady knows vs u ps) (zip : AllZip (HasActed knows txns seed) ps qs) where
-  keeps : KeepsUp knows v ready.1
+  keeps : KeepsUp knows u.seen v ready.1
   keeps = record {
     keeps = ready.4.keeps;
     on = on_then v u (knows ready.1.shop) on ready.4.on;
@@ -278,12 +291,13 @@ module _ {S : Type 0} (knows : S → Knows) (txns seed : ℕ) (vs : List Knows) 
   parted = subst (λ xs. AllZip (HasActed knows txns seed) xs qs) ready.2 zip
 
   pub end_on : AllZip GoesOn (vs ++ v ∷ []) (known knows qs)
-  end_on = all_on knows txns seed 0 vs v ready.0 ready.1 qs ready.3 keeps parted
+  end_on = all_on knows txns seed u.seen 0 vs v ready.0 ready.1 qs ready.3 keeps parted
 
   pub end_driven : AllByRecursion (λ (q : Player S). is_done q.end ≡ true) qs
-      → AreDriven seed txns 0 (known knows qs) × (all_commits qs ≡ count_all is_put (known knows qs))
-      × (all_conflicts qs ≡ count_all is_ended (known knows qs))
-  end_driven well = all_play knows txns seed 0 vs v ready.0 ready.1 qs ready.3 keeps parted well
+      → HaveDriven knows txns seed qs
+  end_driven well =
+      let plays = all_play knows txns seed u.seen 0 vs v ready.0 ready.1 qs ready.3 keeps parted well in
+      ((u.seen, plays.0), plays.1, plays.2)
 
   stopped_as : (fail : DriveFail S) → Gathers qs fail → IsStopped knows (vs ++ v ∷ []) fail
   stopped_as fails.NoMemory gathers = tt
@@ -291,7 +305,7 @@ module _ {S : Type 0} (knows : S → Knows) (txns seed : ℕ) (vs : List Knows) 
       let same = sym (ap (map knows) gathers.0) in (
         subst (AllZip GoesOn (vs ++ v ∷ [])) same end_on,
         subst (IsCauseOfOne why (vs ++ v ∷ [])) same
-            (one_stops knows txns seed why 0 vs v ready.0 ready.1 qs ready.3 keeps parted gathers.1),
+            (one_stops knows txns seed u.seen why 0 vs v ready.0 ready.1 qs ready.3 keeps parted gathers.1),
       )
 
   pub end_stopped : {A : Type 0} (result : Result A (DriveFail S)) → IfErr result (Gathers qs)
@@ -302,7 +316,7 @@ module _ {S : Type 0} (knows : S → Knows) (txns seed : ℕ) (vs : List Knows) 
   left_modest : (fail : DriveFail S) → Gathers qs fail → LeavesModest knows txns fail
   left_modest fails.NoMemory gathers = tt
   left_modest (fails.Stopped shops why) gathers =
-      subst (AreModest txns) (sym (ap (map knows) gathers.0)) (all_modest knows txns seed 0 vs v ready.0 ready.1 qs ready.3 keeps parted)
+      subst (AreModest txns) (sym (ap (map knows) gathers.0)) (all_modest knows txns seed u.seen 0 vs v ready.0 ready.1 qs ready.3 keeps parted)
 
   pub end_modest : {A : Type 0} (result : Result A (DriveFail S)) → IfErr result (Gathers qs)
       → IfErr result (LeavesModest knows txns)
@@ -364,13 +378,13 @@ on_by (Ok a) items knows qs vs zip is = subst (λ xs. AllZip GoesOn vs (map know
 on_by (Err e) items knows qs vs zip is = is
 
 pub driven_by : {S A E : Type 0} (r : Result A E) (items : A → List S) (knows : S → Knows) (txns seed : ℕ) (qs : List (Player S))
-    → (AllDone qs → Plays knows txns seed 0 qs) → IfOk r (λ (a : A). items a ≡ map shop_of qs) → IfOk r (λ (a : A). AllDone qs)
-    → IfOk r (λ (a : A). AreDriven seed txns 0 (map knows (items a)))
-driven_by (Ok a) items knows txns seed qs ends is well = subst (λ xs. AreDriven seed txns 0 (map knows xs)) (sym is) (ends well).0
+    → (AllDone qs → HaveDriven knows txns seed qs) → IfOk r (λ (a : A). items a ≡ map shop_of qs) → IfOk r (λ (a : A). AllDone qs)
+    → IfOk r (λ (a : A). AreDriven seed txns (map knows (items a)))
+driven_by (Ok a) items knows txns seed qs ends is well = subst (λ xs. AreDriven seed txns (map knows xs)) (sym is) (ends well).0
 driven_by (Err e) items knows txns seed qs ends is well = is
 
 pub commits_by : {S A E : Type 0} (r : Result A E) (items : A → List S) (count : A → ℕ) (knows : S → Knows) (txns seed : ℕ)
-    (qs : List (Player S)) → (AllDone qs → Plays knows txns seed 0 qs) → IfOk r (λ (a : A). items a ≡ map shop_of qs)
+    (qs : List (Player S)) → (AllDone qs → HaveDriven knows txns seed qs) → IfOk r (λ (a : A). items a ≡ map shop_of qs)
     → IfOk r (λ (a : A). AllDone qs) → IfOk r (λ (a : A). count a ≡ all_commits qs)
     → IfOk r (λ (a : A). count a ≡ count_all is_put (map knows (items a)))
 commits_by (Ok a) items count knows txns seed qs ends is well sum =
@@ -378,7 +392,7 @@ commits_by (Ok a) items count knows txns seed qs ends is well sum =
 commits_by (Err e) items count knows txns seed qs ends is well sum = sum
 
 pub conflicts_by : {S A E : Type 0} (r : Result A E) (items : A → List S) (count : A → ℕ) (knows : S → Knows) (txns seed : ℕ)
-    (qs : List (Player S)) → (AllDone qs → Plays knows txns seed 0 qs) → IfOk r (λ (a : A). items a ≡ map shop_of qs)
+    (qs : List (Player S)) → (AllDone qs → HaveDriven knows txns seed qs) → IfOk r (λ (a : A). items a ≡ map shop_of qs)
     → IfOk r (λ (a : A). AllDone qs) → IfOk r (λ (a : A). count a ≡ all_conflicts qs)
     → IfOk r (λ (a : A). count a ≡ count_all is_ended (map knows (items a)))
 conflicts_by (Ok a) items count knows txns seed qs ends is well sum =

@@ -1,5 +1,5 @@
 -- The first commit, and what is kept of it.
-use Rattle.std.proofs.Common.{◌≡◌, ℕ, ◌+◌, Bool, true, false, cond, ◌&&◌, List, [], ◌∷◌, ◌++◌, refl, ap, sym, ◌∙◌, arith, append_assoc}
+use Rattle.std.proofs.Common.{◌≡◌, ℕ, ◌+◌, Bool, true, false, cond, ◌&&◌, List, [], ◌∷◌, ◌++◌, refl, ap, sym, ◌∙◌, arith, append_assoc, append-nil}
 use Rattle.std.specs.Prelude.{None, nat_lt}
 use Rattle.std.specs.FinMap.{entries}
 use Rattle.std.specs.List.{filter}
@@ -30,9 +30,10 @@ no_overwritten number (x ∷ xs) = by_test (nat_lt number x.1) (no_overwritten n
 no_conflict : (h : History) (number : ℕ) → first_conflict h number [] ≡ None
 no_conflict h number = ap first_of (no_overwritten number (last_named h))
 
+-- The note is what was seen behind it.
 pub opens : (committed : Bool) (v u x w : Knows) (ticket number : ℕ) (before : List LockEntry) → v.own ≡ [] → GoesOn v u
     → HasBegun ticket number before v u → Looks u x → HasEnded (asked ticket number [] (entries (first_balances 64))) committed x w
-    → HasOpened w
+    → HasOpened w.seen w
 opens false v u x w ticket number before none on b l e =
     absurd (none≢some e.end.1 (sym (no_conflict (history_by x.origin (x.seen ++ e.more)) number) ∙ e.end.2))
 opens true v u x w ticket number before none on b l e =
@@ -62,11 +63,12 @@ opens true v u x w ticket number before none on b l e =
         puts = e.end.0;
         once = omega (arith, all, parts, front, first, own, begin, aside, one, zero);
       };
+      noted = ([], append-nil ((x.seen ++ e.more) ++ e.ended ∷ []) ∙ sym e.seen);
     }
 
 -- what is kept up stays opened
-pub opened_later : (v w : Knows) → HasOpened v → GoesAside v w → HasOpened w
-opened_later v w x s =
+pub opened_later : (note : List LockEntry) (v w : Knows) → HasOpened note v → GoesAside v w → HasOpened note w
+opened_later note v w x s =
     let p = aside_waits v w x.mine s in
     let y = x.opened in
     let all = ap (λ n. count_by is_put n w.seen) p.on.session ∙ ap (count_by is_put v.session) p.seen
@@ -86,4 +88,5 @@ opened_later v w x s =
         puts = y.puts;
         once = omega (arith, all, none, once);
       };
+      noted = x.noted;
     }

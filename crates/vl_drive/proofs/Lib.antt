@@ -1,7 +1,7 @@
 mod Balances
-mod Counts
 mod Gathering
 mod Keeping
+mod Meeting
 mod Modest
 mod Modesty
 mod Playing

@@ -10,6 +10,7 @@ use Rattle.vl_drive.specs.Driven.{AreIn, IsClosed}
 use Rattle.vl_drive.specs.Knowing.{Knows}
 use Rattle.vl_drive.specs.Modest.{IsModest}
 use Rattle.vl_drive.specs.Steps.{Origin, count_by, history_by, is_put, layout_by}
+use Rattle.vl_drive.specs.laws.CountLaws.{commits-counted}
 use Rattle.vl_drive.specs.laws.StepLaws.{counted_own, counted_parts}
 use Rattle.vl_engine_model.specs.LockHistory.{HasOpen, IsLegal, OpenTicket, entries_by, is_of, nothing_open, open_things, open_tickets}
 use Rattle.vl_engine_model.specs.LockHistory.{tickets_after, tickets_by}
@@ -31,7 +32,6 @@ use Rattle.vl_model.specs.Frames.{frame_length}
 use Rattle.vl_model.specs.History.{History, last_number}
 use Rattle.vl_model.specs.Limits.{max_commit_number, max_live}
 use Rattle.vl_model.specs.declared.counter.Counter.TheVariants.{Commit as CommitNumber}
-use Rattle.vl_drive.proofs.Counts.{commits-counted}
 use mathlib.Core.List.{IsPrefix}
 
 -- ---- whose tickets are open

@@ -1,5 +1,5 @@
 -- Beginnings of lists.
-use Rattle.std.proofs.Common.{◌≡◌, List, [], ◌∷◌, ◌++◌, ap, sym, ◌∙◌, append_assoc, append-nil}
+use Rattle.std.proofs.Common.{◌≡◌, List, [], ◌∷◌, ◌++◌, refl, ap, sym, ◌∙◌, append_assoc, append-nil}
 use mathlib.Core.List.{IsPrefix}
 
 module _ {A : Type 0} where
@@ -10,6 +10,11 @@ module _ {A : Type 0} where
   begins_more xs ys zs p q =
       let whole : (xs ++ p.0) ++ q.0 ≡ zs = ap (λ l. l ++ q.0) p.1 ∙ q.1 in
       (p.0 ++ q.0, sym (append_assoc xs p.0 q.0) ∙ whole)
+
+  -- nothing has no beginning but nothing
+  pub none_in_front : (xs ys : List A) → xs ++ ys ≡ [] → xs ≡ []
+  none_in_front [] ys none = refl
+  none_in_front (x ∷ xs) ys none = cc
 
   -- what stands behind the same beginning is the same
   pub same_behind : (xs ys zs : List A) → xs ++ ys ≡ xs ++ zs → ys ≡ zs

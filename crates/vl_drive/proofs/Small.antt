@@ -1,4 +1,4 @@
--- Few writes, each of an account's length.
+-- Few writes, each of an account's length: they are short.
 use Rattle.std.proofs.Common.{◌≡◌, ◌≢◌, ℕ, zero, suc, ◌+◌, ◌≤◌, ◌<◌, Bool, true, false, cond, List, [], ◌∷◌, length, refl, ap, sym, ◌∙◌, subst, arith}
 use Rattle.std.specs.Cmp.Lexicographic.{nat_list_cmp_total}
 use Rattle.std.specs.FinMap.{contains_key, empty, entries, entries-insert, len, len-empty, len-entries, len-insert}
@@ -6,13 +6,11 @@ use Rattle.std.specs.FinMap.Entries.{by_order, put}
 use Rattle.std.specs.List.{AllByRecursion}
 use Rattle.std.specs.declared.cmp.Ordering.{Ordering}
 use Rattle.std.specs.declared.cmp.Ordering.TheVariants.{Less, Equal, Greater}
-use Rattle.vl_drive.specs.Accounts.{IsSmall, account_key, balance_bytes, first_balances, with_balance}
-use Rattle.vl_model.specs.Keys.{Writes, key_cmp, untagged, value_bytes}
+use Rattle.vl_drive.specs.Accounts.{account_key, balance_bytes, first_balances, with_balance}
+use Rattle.vl_drive.specs.Small.{IsShort, IsSmall}
+use Rattle.vl_model.specs.Keys.{Writes, key_cmp, untagged}
 use Rattle.vl_model.specs.declared.change.Change.{Change}
 use Rattle.vl_model.specs.declared.change.Change.TheVariants.{Set}
-
-abbrev IsShort : List ℕ × Change → Type 0
-IsShort write = (length write.0 ≡ 1) × (length (value_bytes write.1) ≤ 80)
 
 put_short : (key : List ℕ) (change : Change) → IsShort (key, change) → (es : List (List ℕ × Change)) → AllByRecursion IsShort es
     → AllByRecursion IsShort (put key_cmp key change es)

@@ -7,18 +7,20 @@ use Rattle.std.proofs.lemmas.List.{append-nil, append_assoc}
 use Rattle.std.specs.FinMap.{entries, from_sorted}
 use Rattle.std.specs.List.{AllByRecursion}
 use Rattle.vl_drive.specs.Accounts.{account_key, balance_after, first_balances, sum_of, total_after, transfer_writes}
-use Rattle.vl_drive.specs.Clients.{AreDriven, HasOpened, HasPlayed, count_all}
+use Rattle.vl_drive.specs.Clients.{AreDriven, AreDrivenBehind, HasMet, HasOpened, HasPlayed, count_all}
 use Rattle.vl_drive.specs.Driven.{AreIn, IsClosed, IsDriven}
 use Rattle.vl_drive.specs.Knowing.{Knows}
 use Rattle.vl_drive.specs.Numbers.{number_in_turn, seed_of, transfer_in}
 use Rattle.vl_drive.specs.Steps.{AreBy, Origin, count_by, history_by, is_aside, is_end, is_ended, is_named, is_put}
 use Rattle.vl_drive.specs.Turns.{AreTurns, EndsTurn, IsOpenedBy, end_of, is_crossed}
 use Rattle.vl_drive.specs.declared.transfer.Transfer.{Transfer}
+use Rattle.vl_drive.specs.laws.CountLaws.{by_session, commits-counted, ends-counted}
 use Rattle.vl_drive.specs.laws.StepLaws.{aside_is_no_put, counted_aside, counted_first, counted_none, counted_one}
 use Rattle.vl_drive.specs.laws.StepLaws.{counted_own, counted_parts, others_are}
 use Rattle.vl_drive.specs.laws.TurnLaws.{commits-behind, turns_more, two_accounts}
 use Rattle.vl_drive.proofs.Balances.{balance-kept, total-first, total-moved}
-use Rattle.vl_drive.proofs.Counts.{by_session, commits-counted, ends-counted}
+use Rattle.vl_drive.proofs.Meeting.{none_by}
+use Rattle.vl_drive.proofs.Prefixes.{begins_more}
 use Rattle.vl_drive.proofs.Sums.{sum-shared}
 use Rattle.vl_engine_model.specs.LockHistory.{commits_of, entries_by, put_after}
 use Rattle.vl_engine_model.specs.declared.lock_history.LockEntry.{LockEntry}
@@ -183,13 +185,25 @@ module _ (o : Origin) (list : List LockEntry) (session : ℕ) (v : Knows) (origi
         sym (ap (count_by is_end session) all) ∙ omega (arith, parts, none, count),
       )
 
-  pub opened-in : HasOpened v → IsOpenedBy session list
-  opened-in has =
+  -- none of what a client met is its own
+  pub met-in : (note : List LockEntry) → HasMet note v → entries_by session note ≡ []
+  met-in note met = by_own v.own refl
+    where
+      by_own : (es : List LockEntry) → v.own ≡ es → entries_by session note ≡ []
+      by_own [] is = none_by session note list (begins_more note v.seen list met.seen seen) (sym own ∙ is)
+      by_own (e ∷ es) is = subst (λ (s : ℕ). entries_by s note ≡ []) session_is (met.none (λ none. cc))
+
+  -- the first commit stands in the list, and what is in front of it in the note
+  pub opened-in : (note : List LockEntry) → HasOpened note v → (opened : IsOpenedBy session list) × IsPrefix opened.before note
+  opened-in note has =
       let none = counted_none is_aside is_put session aside_is_no_put seen.0 (none-behind v.seen seen.0 seen.1 has.mine) in
       let counted = counted_parts is_put session v.seen seen.0 in
-      let opened : IsOpenedBy session v.seen = subst (λ (s : ℕ). IsOpenedBy s v.seen) session_is has.opened in
+      let front = begins_more has.opened.before (has.opened.before ++ has.opened.first ∷ []) note (has.opened.first ∷ [], refl) has.noted in
+      let at : (x : IsOpenedBy session v.seen) × IsPrefix x.before note =
+      subst (λ (s : ℕ). (x : IsOpenedBy s v.seen) × IsPrefix x.before note) session_is (has.opened, front) in
+      let opened = at.0 in
       let one = opened.once in
-      record {
+      let here : IsOpenedBy session list = record {
         before = opened.before;
         first = opened.first;
         after = opened.after ++ seen.0;
@@ -200,40 +214,47 @@ module _ (o : Origin) (list : List LockEntry) (session : ℕ) (v : Knows) (origi
         number = opened.number;
         puts = opened.puts;
         once = sym (ap (count_by is_put session) seen.1) ∙ omega (arith, counted, none, one);
-      }
+      } in
+      (here, at.1)
 
 -- ---- all shops
 
-module _ (o : Origin) (clients seed txns : ℕ) (list : List LockEntry) where
+module _ (o : Origin) (clients seed txns : ℕ) (list note : List LockEntry) where
   abbrev HasTurns : ℕ → Type 0
   HasTurns client = (AreTurns o (transfer_in seed client) client list) × (count_by is_end client list ≡ txns)
+      × (entries_by client note ≡ [])
 
-  each-client : (vs : List Knows) (first : ℕ) → first + length vs ≡ clients + 1 → AreDriven seed txns first vs
+  each-client : (vs : List Knows) (first : ℕ) → first + length vs ≡ clients + 1 → AreDrivenBehind note seed txns first vs
       → AreIn o first list vs
       → (client : ℕ) → first ≤ client → client < clients → HasTurns client
   each-client [] first many driven are client low less = absurd driven
   each-client (v ∷ []) first many driven are client low less = absurd (omega (arith, many, low, less))
   each-client (v ∷ w ∷ vs) first many driven are client low less =
       by_test (client == first) refl
-      (λ later. each-client (w ∷ vs) (first + 1) (omega (arith, many)) driven.1 are.4 client later less)
+      (λ later. each-client (w ∷ vs) (first + 1) (omega (arith, many)) driven.2 are.4 client later less)
     where
       by_test : (b : Bool) → (client == first) ≡ b → (first + 1 ≤ client → HasTurns client) → HasTurns client
       by_test true is rest =
           let same : first ≡ client = grind (arith, nat_tests) in
-          subst HasTurns same (played-in o list first v are.0 are.1 are.2 are.3 (transfer_in seed first) txns driven.0)
+          let played = played-in o list first v are.0 are.1 are.2 are.3 (transfer_in seed first) txns driven.0 in
+          subst HasTurns same (played.0, played.1, met-in o list first v are.0 are.1 are.2 are.3 note driven.1)
       by_test false is rest = let later : first + 1 ≤ client = grind (arith, nat_tests, low, is) in rest later
 
-  last-opened : (vs : List Knows) (first : ℕ) → first + length vs ≡ clients + 1 → AreDriven seed txns first vs
+  -- the first commit stands in the note
+  abbrev HasFirst : ℕ → Type 0
+  HasFirst session = (opened : IsOpenedBy session list) × IsPrefix opened.before note
+
+  last-opened : (vs : List Knows) (first : ℕ) → first + length vs ≡ clients + 1 → AreDrivenBehind note seed txns first vs
       → AreIn o first list vs
-      → IsOpenedBy clients list
+      → HasFirst clients
   last-opened [] first many driven are = absurd driven
   last-opened (v ∷ []) first many driven are =
       let same : first ≡ clients = omega (arith, many) in
-      subst (λ (k : ℕ). IsOpenedBy k list) same (opened-in o list first v are.0 are.1 are.2 are.3 driven)
-  last-opened (v ∷ w ∷ vs) first many driven are = last-opened (w ∷ vs) (first + 1) (omega (arith, many)) driven.1 are.4
+      subst HasFirst same (opened-in o list first v are.0 are.1 are.2 are.3 note driven)
+  last-opened (v ∷ w ∷ vs) first many driven are = last-opened (w ∷ vs) (first + 1) (omega (arith, many)) driven.2 are.4
 
   all-counted : (kind : LockStep → Bool) (vs : List Knows) (first : ℕ) → first + length vs ≡ clients + 1
-      → AreDriven seed txns first vs → AreIn o first list vs
+      → AreDrivenBehind note seed txns first vs → AreIn o first list vs
       → sum_of (by_session kind list) clients ≡ sum_of (by_session kind list) first + count_all kind vs
   all-counted kind [] first many driven are = absurd driven
   all-counted kind (v ∷ []) first many driven are =
@@ -241,7 +262,7 @@ module _ (o : Origin) (clients seed txns : ℕ) (list : List LockEntry) where
       let here = ap (sum_of (by_session kind list)) same in
       omega (arith, here)
   all-counted kind (v ∷ w ∷ vs) first many driven are =
-      let rest = all-counted kind (w ∷ vs) (first + 1) (omega (arith, many)) driven.1 are.4 in
+      let rest = all-counted kind (w ∷ vs) (first + 1) (omega (arith, many)) driven.2 are.4 in
       let up : first + 1 ≡ suc first = omega arith in
       let next = ap (sum_of (by_session kind list)) up in
       let own : count_by kind v.session v.own ≡ count_by kind first list =
@@ -249,17 +270,18 @@ module _ (o : Origin) (clients seed txns : ℕ) (list : List LockEntry) where
       omega (arith, rest, next, own)
 
 pub list-driven : (o : Origin) (clients seed txns : ℕ) (vs : List Knows) (list : List LockEntry)
-    → length vs ≡ clients + 1 → AreDriven seed txns 0 vs → IsClosed o vs list
+    → length vs ≡ clients + 1 → AreDriven seed txns vs → IsClosed o vs list
     → IsDriven o clients txns seed (count_all is_put vs) (count_all is_ended vs) list
-list-driven o clients seed txns vs list many driven closed =
+list-driven o clients seed txns vs list many (note, driven) closed =
     let from_first : 0 + length vs ≡ clients + 1 = omega (arith, many) in
     let numbers : AreBelow (clients + 1) list = subst (λ (n : ℕ). AreBelow n list) many closed.numbers in
-    let opened = last-opened o clients seed txns list vs 0 from_first driven closed.all in
-    let each = each-client o clients seed txns list vs 0 from_first driven closed.all in
+    let first = last-opened o clients seed txns list note vs 0 from_first driven closed.all in
+    let opened = first.0 in
+    let each = each-client o clients seed txns list note vs 0 from_first driven closed.all in
     let turns : (client : ℕ) → client < clients → AreTurns o (transfer_in seed client) client list =
     λ client less. (each client (omega arith) less).0 in
-    let puts = all-counted o clients seed txns list is_put vs 0 from_first driven closed.all in
-    let ended = all-counted o clients seed txns list is_ended vs 0 from_first driven closed.all in
+    let puts = all-counted o clients seed txns list note is_put vs 0 from_first driven closed.all in
+    let ended = all-counted o clients seed txns list note is_ended vs 0 from_first driven closed.all in
     let all = commits-counted (clients + 1) list numbers in
     let up : clients + 1 ≡ suc clients = omega arith in
     let next = ap (sum_of (by_session is_put list)) up in
@@ -268,7 +290,9 @@ list-driven o clients seed txns vs list many driven closed =
     (λ client less. sym (ends-counted client list) ∙ (each client (omega arith) less).1) in
     record {
       legal = closed.legal;
+      only = numbers;
       opened = opened;
+      behind = λ client less. none_by client opened.before note first.1 (each client (omega arith) less).2;
       turns = turns;
       each = λ client less. (each client (omega arith) less).1;
       commits_are = omega (arith, puts);

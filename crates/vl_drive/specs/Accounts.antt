@@ -1,14 +1,12 @@
 -- Accounts in a store, and what a transfer writes.
-use Rattle.std.specs.Prelude.{◌≡◌, ◌≤◌, ◌<◌, ℕ, zero, suc, ◌+◌, ◌-◌, ◌^◌, ◌==◌, min, if◌then◌else◌}
+use Rattle.std.specs.Prelude.{ℕ, zero, suc, ◌+◌, ◌-◌, ◌^◌, ◌==◌, min, if◌then◌else◌}
 use Rattle.std.specs.Prelude.{List, [], ◌∷◌, ◌++◌, length, replicate}
 use Rattle.std.specs.Prelude.{Option, Some, None}
-use Rattle.std.specs.FinMap.{empty, entries, insert, len}
-use Rattle.std.specs.List.{AllByRecursion}
+use Rattle.std.specs.FinMap.{empty, insert}
 use Rattle.byteorder.specs.Endian.{big_bytes, big_number}
 use Rattle.vl_drive.specs.declared.transfer.Transfer.{Transfer}
 use Rattle.vl_model.specs.History.{History, last_number, value_at}
-use Rattle.vl_model.specs.Keys.{Stored, Writes, untagged, value_bytes}
-use Rattle.vl_model.specs.declared.change.Change.{Change}
+use Rattle.vl_model.specs.Keys.{Stored, Writes, untagged}
 use Rattle.vl_model.specs.declared.change.Change.TheVariants.{Set}
 
 -- ---- balances
@@ -66,9 +64,3 @@ abbrev pub transfer_writes : Transfer → (ℕ → ℕ) → Writes
 transfer_writes t balance =
     with_balance t.to (added (balance t.to) (moved t (balance t.from)))
     (with_balance t.from (balance t.from - moved t (balance t.from)) empty)
-
--- few writes, each of an account's length
-pub record IsSmall (writes : Writes) : Type 0 where
-  pub few : len writes < 64
-  pub short : AllByRecursion (λ (write : List ℕ × Change). (length write.0 ≡ 1) × (length (value_bytes write.1) ≤ 80))
-      (entries writes)

@@ -1,5 +1,5 @@
 -- What the shops know when all turns were taken.
-use Rattle.std.specs.Prelude.{◌≡◌, ℕ, ◌+◌, Bool, List, [], ◌∷◌}
+use Rattle.std.specs.Prelude.{◌≡◌, ◌≢◌, ℕ, ◌+◌, Bool, List, [], ◌∷◌, ◌++◌}
 use Rattle.std.specs.List.{AllByRecursion}
 use Rattle.atomic_table.specs.Seated.{TableId}
 use Rattle.vl_drive.specs.Knowing.{Knows}
@@ -20,17 +20,29 @@ pub record HasPlayed (transfers : ℕ → Transfer) (txns : ℕ) (v : Knows) : T
   pub turns : AreTurns v.origin transfers v.session until
   pub count : count_by is_end v.session until ≡ txns
 
--- The last shop made the first commit, and no other one.
-pub record HasOpened (v : Knows) : Type 0 where
+-- It met a note of these steps before its own first one: it has seen them, and where it made a step none of
+-- them is its own.
+pub record HasMet (note : List LockEntry) (v : Knows) : Type 0 where
+  pub seen : IsPrefix note v.seen
+  pub none : v.own ≢ [] → entries_by v.session note ≡ []
+
+-- The last shop made the first commit, which is one of the noted steps, and no other one.
+pub record HasOpened (note : List LockEntry) (v : Knows) : Type 0 where
   pub mine : v.own ≡ entries_by v.session v.seen
   pub opened : IsOpenedBy v.session v.seen
+  pub noted : IsPrefix (opened.before ++ opened.first ∷ []) note
 
--- all but the last are clients, which count from this number on
-abbrev pub AreDriven : (seed txns client : ℕ) → List Knows → Type 0
-AreDriven seed txns client [] = ⊥
-AreDriven seed txns client (v ∷ []) = HasOpened v
-AreDriven seed txns client (v ∷ w ∷ vs) =
-    HasPlayed (transfer_in seed client) txns v × AreDriven seed txns (client + 1) (w ∷ vs)
+-- all but the last are clients, which count from this number on and met this note
+abbrev pub AreDrivenBehind : (note : List LockEntry) → (seed txns client : ℕ) → List Knows → Type 0
+AreDrivenBehind note seed txns client [] = ⊥
+AreDrivenBehind note seed txns client (v ∷ []) = HasOpened note v
+AreDrivenBehind note seed txns client (v ∷ w ∷ vs) =
+    HasPlayed (transfer_in seed client) txns v × HasMet note v
+    × AreDrivenBehind note seed txns (client + 1) (w ∷ vs)
+
+-- they met one note, which has the first commit
+abbrev pub AreDriven : (seed txns : ℕ) → List Knows → Type 0
+AreDriven seed txns vs = (note : List LockEntry) × AreDrivenBehind note seed txns 0 vs
 
 -- how many of the clients' own steps are of a kind
 abbrev pub count_all : (LockStep → Bool) → List Knows → ℕ

@@ -12,13 +12,15 @@ use Rattle.vl_engine_model.specs.declared.lock_history.LockEntry.{LockEntry}
 use Rattle.vl_model.specs.History.{last_number}
 use mathlib.Core.List.{IsPrefix}
 
--- The list is lawful. The sessions below `clients` each took so many turns, and the session with that number made the first commit. The
--- commits are the clients' commits in the list, and the conflicts what they ended there without one; each end is its
--- turn's. Both together are all turns.
--- The store's number and the sum of all balances are as they must be then.
+-- The list is lawful, and has steps of the sessions up to `clients` alone. The one with that number made the
+-- first commit, and no step of the others stands in front of it. They took so many turns each. The commits are
+-- their commits in the list, and the conflicts what they ended there without one; each end is its turn's. Both
+-- together are all turns. The store's number and the sum of all balances are as they must be then.
 pub record IsDriven (o : Origin) (clients txns seed commits conflicts : ℕ) (list : List LockEntry) : Type 0 where
   pub legal : IsLegal o.number list
+  pub only : AllByRecursion (λ (e : LockEntry). e.session < clients + 1) list
   pub opened : IsOpenedBy clients list
+  pub behind : (client : ℕ) → client < clients → entries_by client opened.before ≡ []
   pub turns : (client : ℕ) → client < clients → AreTurns o (transfer_in seed client) client list
   pub each : (client : ℕ) → client < clients → count_by is_end client list ≡ txns
   pub commits_are : commits ≡ sum_of (λ client. count_by is_put client list) clients

@@ -41,3 +41,7 @@ commit_entry ticket writes session l h NoMemory = None
 commit_entry ticket writes session l h (Failed name) =
     Some (entry_of session (Ended ticket) (halted_at name (ended ticket l)))
 commit_entry ticket writes session l h (Damaged name place) = None
+
+-- of what is forgotten
+abbrev pub forget_entry : (ticket : ℕ) → ℕ → Layout → History → Outcome (Unit {0}) → Option LockEntry
+forget_entry ticket session l h outcome = Some (entry_of session (Ended ticket) (ended ticket l))

@@ -1,8 +1,8 @@
 -- What threads with shops come to.
 use Rattle.std.specs.Prelude.{◌≡◌, ◌≤◌, ◌<◌, ◌⊎◌, ℕ, ◌+◌, ◌^◌, ◌++◌, Bool, false, true, List, [], ◌∷◌, map}
-use Rattle.std.specs.Prelude.{IfErr, IfOk, Result, Ok, Err, Option, None, Some}
+use Rattle.std.specs.Prelude.{IfErr, IfOk, OnOk, Result, Ok, Err, Option, None, Some}
 use Rattle.std.specs.List.{AllByRecursion, AllZip}
-use Rattle.vl_drive.specs.Clients.{HasOpened}
+use Rattle.vl_drive.specs.Clients.{HasMet, HasOpened}
 use Rattle.vl_drive.specs.Knowing.{GoesOn, Knows}
 use Rattle.vl_drive.specs.Modest.{AreModest, IsModest}
 use Rattle.vl_drive.specs.Numbers.{transfer_in}
@@ -15,6 +15,8 @@ use Rattle.vl_drive.specs.declared.trouble.Cause.{Cause}
 use Rattle.vl_drive.specs.declared.trouble.Cause.TheVariants as cause
 use Rattle.vl_drive.specs.declared.trouble.Trouble.{Trouble}
 use Rattle.vl_drive.specs.declared.trouble.Trouble.TheVariants as trouble
+use Rattle.vl_engine_model.specs.declared.lock_history.LockEntry.{LockEntry}
+use mathlib.Core.List.{IsPrefix}
 
 -- ---- troubles
 
@@ -45,39 +47,42 @@ module _ {S : Type 0} (knows : S → Knows) where
 
   -- ---- players
 
-  -- a client before its first turn, with what it knew when it was handed in
-  pub record IsSeated (client : ℕ) (v : Knows) (p : Player S) : Type 0 where
+  -- a client before its first turn, with what it knew when it was handed in; it has met this note
+  pub record IsSeated (note : List LockEntry) (client : ℕ) (v : Knows) (p : Player S) : Type 0 where
     pub number : p.client ≡ client
     pub plays : p.keeps_up ≡ false
     pub on : GoesOn v (knows p.shop)
     pub own : (knows p.shop).own ≡ []
+    pub met : IsPrefix note (knows p.shop).seen
 
   -- these are clients, which count from this number on
-  abbrev pub AreSeated : (client : ℕ) → List Knows → List (Player S) → Type 0
-  AreSeated client [] [] = Unit {0}
-  AreSeated client [] (p ∷ ps) = ⊥
-  AreSeated client (v ∷ vs) [] = ⊥
-  AreSeated client (v ∷ vs) (p ∷ ps) = IsSeated client v p × AreSeated (client + 1) vs ps
+  abbrev pub AreSeated : (note : List LockEntry) → (client : ℕ) → List Knows → List (Player S) → Type 0
+  AreSeated note client [] [] = Unit {0}
+  AreSeated note client [] (p ∷ ps) = ⊥
+  AreSeated note client (v ∷ vs) [] = ⊥
+  AreSeated note client (v ∷ vs) (p ∷ ps) = IsSeated note client v p × AreSeated note (client + 1) vs ps
 
-  -- the last one, which made the first commit
-  pub record KeepsUp (v : Knows) (p : Player S) : Type 0 where
+  -- the last one, which made the first commit and noted it
+  pub record KeepsUp (note : List LockEntry) (v : Knows) (p : Player S) : Type 0 where
     pub keeps : p.keeps_up ≡ true
     pub on : GoesOn v (knows p.shop)
-    pub opened : HasOpened (knows p.shop)
+    pub opened : HasOpened note (knows p.shop)
     pub modest : IsModest 0 (knows p.shop)
 
-  -- clients, and behind them the one that keeps up
+  -- clients, and behind them the one that keeps up; what this one has seen is noted
   abbrev pub AreReady : (vs : List Knows) → Knows → List (Player S) → Type 0
   AreReady vs v ps = (clients : List (Player S)) × (last : Player S)
-      × (ps ≡ clients ++ last ∷ []) × AreSeated 0 vs clients × KeepsUp v last
+      × (ps ≡ clients ++ last ∷ []) × AreSeated v.seen 0 vs clients × KeepsUp v.seen v last
 
   -- what a thread did: a client took its turns, or the store was kept up
   pub record HasActed (txns seed : ℕ) (p q : Player S) : Type 0 where
     pub on : GoesOn (knows p.shop) (knows q.shop)
     pub played : p.keeps_up ≡ false → (knows p.shop).own ≡ []
         → IfOk q.end (λ score. HasScored (transfer_in seed p.client) txns score.commits score.conflicts (knows q.shop))
-    pub kept_up : p.keeps_up ≡ true → HasOpened (knows p.shop)
-        → IfOk q.end (λ score. (score.commits ≡ 0) × (score.conflicts ≡ 0) × HasOpened (knows q.shop))
+    pub met : p.keeps_up ≡ false → (knows p.shop).own ≡ []
+        → OnOk q.end (HasMet (knows p.shop).seen (knows q.shop))
+    pub kept_up : p.keeps_up ≡ true → (note : List LockEntry) → HasOpened note (knows p.shop)
+        → IfOk q.end (λ score. (score.commits ≡ 0) × (score.conflicts ≡ 0) × HasOpened note (knows q.shop))
     pub modest : p.keeps_up ≡ false → (knows p.shop).own ≡ [] → IsModest txns (knows q.shop)
     pub still_modest : p.keeps_up ≡ true → IsModest txns (knows p.shop) → IsModest txns (knows q.shop)
     pub count : IfOk q.end (λ score. score.commits + score.conflicts ≤ txns)

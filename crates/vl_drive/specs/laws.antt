@@ -1,3 +1,4 @@
+pub mod CountLaws
 pub mod ModestLaws
 pub mod SinceLaws
 pub mod StepLaws

@@ -1,11 +1,13 @@
 //! A client's turns.
 ghost use Rattle.std.specs.Prelude.{◌≡◌, ◌≢◌, ◌<◌, ◌+◌, ◌++◌, ◌∷◌, [], ℕ, List, IfErr, IfOk, OnErr, OnOk, true};
 ghost use Rattle.std.specs.FinMap.{empty, entries};
-ghost use Rattle.vl_drive.specs.Accounts.{IsSmall, account_key, balance_in, with_balance};
+ghost use Rattle.vl_drive.specs.Accounts.{account_key, balance_in, with_balance};
+ghost use Rattle.vl_drive.specs.Clients.{HasMet};
 ghost use Rattle.vl_drive.specs.Knowing.{GoesOn, IsOwnTicket, Looks};
 ghost use Rattle.vl_drive.specs.Modest.{IsBusy, IsIdle, IsModest};
 ghost use Rattle.vl_drive.specs.Numbers.{number_in_turn, transfer_of};
 ghost use Rattle.vl_drive.specs.Playing.{HasBegun, HasScored, HasTaken, IsTrouble};
+ghost use Rattle.vl_drive.specs.Small.{IsSmall};
 ghost use Rattle.vl_drive.specs.Steps.{history_by};
 ghost use Rattle.vl_engine_model.specs.declared.lock_history.LockEntry.{LockEntry};
 ghost use Rattle.vl_model.specs.History.{History, value_at};
@@ -39,6 +41,8 @@ pub(crate) fn play<R: Wait, S: Shop, G: Gate>(
     ensures on { GoesOn (S.knows shop.old) (S.knows shop.new) }
     ensures scored { (S.knows shop.old).own ≡ [] → IfOk result (λ score.
         HasScored (λ turn. transfer_of (number_in_turn seed turn)) txns score.commits score.conflicts (S.knows shop.new)) }
+    ensures met { (S.knows shop.old).own ≡ []
+        → OnOk result (HasMet (S.knows shop.old).seen (S.knows shop.new)) }
     ensures count { IfOk result (λ score. score.commits + score.conflicts ≡ txns) }
     ensures modest { (S.knows shop.old).own ≡ [] → IsModest txns (S.knows shop.new) }
     ensures trouble { IfErr result (IsTrouble (S.knows shop.old) (S.knows shop.new)) }

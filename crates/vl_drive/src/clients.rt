@@ -2,7 +2,7 @@
 ghost use Rattle.std.specs.Prelude.{◌≡◌, ◌≤◌, ◌++◌, ◌+◌, ◌<◌, ◌^◌, ◌∷◌, [], ℕ, Err, IfErr, IfOk, Ok, length, map, true};
 ghost use Rattle.std.specs.List.{AllByRecursion, AllZip};
 ghost use Rattle.vl_drive.specs.Clients.{AreDriven, AreNew, HasOpened, IsNewAt, count_all};
-ghost use Rattle.vl_drive.specs.Knowing.{GoesOn, Knows};
+ghost use Rattle.vl_drive.specs.Knowing.{GoesOn, Knows, Meets, noted_by};
 ghost use Rattle.vl_drive.specs.Modest.{AreModest, IsModest};
 ghost use Rattle.vl_drive.specs.Players.{AreReady, Gathers, HasActed, IsFew, IsStopped, LeavesModest, all_commits};
 ghost use Rattle.vl_drive.specs.Players.{all_conflicts, commits_of, conflicts_of, is_done, last_of, shop_of};
@@ -61,9 +61,10 @@ pub fn drive<R: Threads + Wait + Sync, S: Shop + Send, G: Gate + Sync>(
 ) -> Result<(Tally, Vec<S>), DriveFail<S>>
     requires count { (2 ≤ length shops.items) × (length shops.items ≤ 64) }
     requires new { AreNew (map S.knows shops.items) }
-    // The shops come back in their order. All but the last have taken their turns, and the last made the first commit.
+    // The shops come back in their order. The last made the first commit. All others met a note of that
+    // before their first step, and have taken their turns.
     ensures on { IfOk result (λ r. AllZip GoesOn (map S.knows shops.items) (map S.knows r.1.items)) }
-    ensures driven { IfOk result (λ r. AreDriven seed txns 0 (map S.knows r.1.items)) }
+    ensures driven { IfOk result (λ r. AreDriven seed txns (map S.knows r.1.items)) }
     ensures commits { IfOk result (λ r. r.0.commits ≡ count_all is_put (map S.knows r.1.items)) }
     ensures conflicts { IfOk result (λ r. r.0.conflicts ≡ count_all is_ended (map S.knows r.1.items)) }
     // Else the cause is one of the shops'. Few of their transactions live then, and they made few commits.
@@ -92,11 +93,11 @@ fn played<R: Threads + Wait + Sync, S: Shop + Send, G: Gate + Sync>(
 ) -> Result<(Tally, Vec<S>), DriveFail<S>>
     requires few { length shops.items < 64 }
     requires new { AllByRecursion (IsNewAt (S.knows keeper).store) (map S.knows shops.items) }
-    requires opened { HasOpened (S.knows keeper) }
+    requires opened { HasOpened (S.knows keeper).seen (S.knows keeper) }
     requires modest { IsModest 0 (S.knows keeper) }
     ensures on { (v : Knows) → GoesOn v (S.knows keeper)
         → IfOk result (λ r. AllZip GoesOn (map S.knows shops.items ++ v ∷ []) (map S.knows r.1.items)) }
-    ensures driven { IfOk result (λ r. AreDriven seed txns 0 (map S.knows r.1.items)) }
+    ensures driven { IfOk result (λ r. AreDriven seed txns (map S.knows r.1.items)) }
     ensures commits { IfOk result (λ r. r.0.commits ≡ count_all is_put (map S.knows r.1.items)) }
     ensures conflicts { IfOk result (λ r. r.0.conflicts ≡ count_all is_ended (map S.knows r.1.items)) }
     ensures stopped { (v : Knows) → GoesOn v (S.knows keeper)
@@ -139,7 +140,7 @@ fn unopened<S: Shop>(shops: Vec<S>, keeper: S, trouble: Trouble) -> DriveFail<S>
 fn seated<S: Shop>(alloc: Global, shops: Vec<S>, keeper: S) -> Result<Vec<Player<S>>, AllocError>
     requires few { length shops.items < 64 }
     requires new { AllByRecursion (IsNewAt (S.knows keeper).store) (map S.knows shops.items) }
-    requires opened { HasOpened (S.knows keeper) }
+    requires opened { HasOpened (S.knows keeper).seen (S.knows keeper) }
     requires modest { IsModest 0 (S.knows keeper) }
     ensures ready { IfOk result (λ players. AreReady S.knows (map S.knows shops.items) (S.knows keeper) players.items) }
     ensures few { IfOk result (λ players. length players.items ≤ 64) }
@@ -148,16 +149,27 @@ fn seated<S: Shop>(alloc: Global, shops: Vec<S>, keeper: S) -> Result<Vec<Player
     let mut players = Vec::with_capacity(alloc, shops.len() + 1)?;
     let mut client = 0;
     for shop in shops {
-        let mut shop = shop;
-        let note = keeper.note()?;
-        shop.meet(note);
-        let player = seat(shop, client, false);
+        let met = introduced(shop, &mut keeper)?;
+        let player = seat(met, client, false);
         players.push(player)?;
         client += 1;
     }
     let last = seat(keeper, client, true);
     players.push(last)?;
     Ok(players)
+}
+
+// The shop, which has met a note of all that the keeper has seen.
+fn introduced<S: Shop>(shop: S, keeper: &mut S) -> Result<S, AllocError>
+    requires store { (S.knows keeper.old).store ≡ (S.knows shop).store }
+    ensures same { S.knows keeper.new ≡ S.knows keeper.old }
+    ensures met { IfOk result (λ met.
+        Meets (S.knows shop) (S.knows met) (noted_by (S.knows keeper.old))) }
+{
+    let mut shop = shop;
+    let note = keeper.note()?;
+    shop.meet(note);
+    Ok(shop)
 }
 
 // A shop before its first turn.

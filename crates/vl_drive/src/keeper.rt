@@ -1,9 +1,10 @@
 //! The first commit, and the upkeep beside the clients.
-ghost use Rattle.std.specs.Prelude.{◌≡◌, [], ℕ, IfErr, IfOk, OnOk};
+ghost use Rattle.std.specs.Prelude.{◌≡◌, [], ℕ, List, IfErr, IfOk, OnOk};
 ghost use Rattle.vl_drive.specs.Clients.{HasOpened};
 ghost use Rattle.vl_drive.specs.Knowing.{GoesOn};
 ghost use Rattle.vl_drive.specs.Modest.{IsModest};
 ghost use Rattle.vl_drive.specs.Playing.{IsTrouble};
+ghost use Rattle.vl_engine_model.specs.declared.lock_history.LockEntry.{LockEntry};
 
 use crate::client::{Score, begin, set};
 use crate::commit::{commit, passed_over};
@@ -15,7 +16,8 @@ use std::sync::Wait;
 // Each of the 64 accounts gets 1,000.
 pub(crate) fn open_accounts<R: Wait, S: Shop>(rt: &R, shop: &mut S) -> Result<(), Trouble>
     ensures on { GoesOn (S.knows shop.old) (S.knows shop.new) }
-    ensures opened { (S.knows shop.old).own ≡ [] → OnOk result (HasOpened (S.knows shop.new)) }
+    ensures opened { (S.knows shop.old).own ≡ []
+        → OnOk result (HasOpened (S.knows shop.new).seen (S.knows shop.new)) }
     ensures modest { (S.knows shop.old).own ≡ [] → IsModest 0 (S.knows shop.new) }
     ensures trouble { IfErr result (IsTrouble (S.knows shop.old) (S.knows shop.new)) }
 {
@@ -35,7 +37,8 @@ pub(crate) fn keep_up<R: Wait, S: Shop>(
     rounds: u32,
 ) -> Result<Score, Trouble>
     ensures on { GoesOn (S.knows shop.old) (S.knows shop.new) }
-    ensures opened { HasOpened (S.knows shop.old) → OnOk result (HasOpened (S.knows shop.new)) }
+    ensures opened { (note : List LockEntry) → HasOpened note (S.knows shop.old)
+        → OnOk result (HasOpened note (S.knows shop.new)) }
     ensures modest { (turns : ℕ) → IsModest turns (S.knows shop.old) → IsModest turns (S.knows shop.new) }
     ensures none { IfOk result (λ score. (score.commits ≡ 0) × (score.conflicts ≡ 0)) }
     ensures trouble { IfErr result (IsTrouble (S.knows shop.old) (S.knows shop.new)) }

@@ -29,10 +29,11 @@ ghost use Rattle.vl_model.specs.Reads.{Read, is_read};
 ghost use Rattle.vl_model.specs.declared.counter.Counter.TheVariants.{Commit as CommitNumber};
 ghost use mathlib.Core.List.{IsPrefix};
 
-/// What the shops know when all turns were taken, over the closed list: commits, conflicts, number and total.
+/// What the shops know when all turns were taken, over the closed list: the first commit in front of all turns,
+/// commits, conflicts, number and total.
 pub fn a_closed_list_is_driven()
     ensures { (o : Origin) (clients seed txns : ℕ) (vs : List Knows) (list : List LockEntry)
-        → length vs ≡ clients + 1 → AreDriven seed txns 0 vs → IsClosed o vs list
+        → length vs ≡ clients + 1 → AreDriven seed txns vs → IsClosed o vs list
         → IsDriven o clients txns seed (count_all is_put vs) (count_all is_ended vs) list }
 {}
 

@@ -1,16 +1,18 @@
-ghost use Rattle.std.specs.Prelude.{◌≡◌, ◌++◌, ◌∷◌, [], ℕ, List, None, Some, IfOk, OnErr, OnOk, length};
+ghost use Rattle.std.specs.Prelude.{◌≡◌, ◌≤◌, ◌++◌, ◌∷◌, [], ℕ, List, None, Some, IfOk, OnErr, OnOk, length, true};
 ghost use Rattle.std.specs.FinMap.{empty, entries, get, insert};
-ghost use Rattle.vl_drive.specs.Accounts.{IsSmall};
 ghost use Rattle.vl_drive.specs.Answers.{asked, begin_outcome, commit_outcome, handed_back};
 ghost use Rattle.vl_drive.specs.Answers.{is_commit_fault, is_read_fault, is_step_fault};
-ghost use Rattle.vl_drive.specs.Entries.{begin_entry, commit_entry};
+ghost use Rattle.vl_drive.specs.Entries.{begin_entry, commit_entry, forget_entry};
 ghost use Rattle.vl_drive.specs.Knowing.{GoesAside, IsCounted, IsOwnTicket, Knows, Looks, Meets, Noted, Stepped};
 ghost use Rattle.vl_drive.specs.Knowing.{noted_by};
+ghost use Rattle.vl_drive.specs.Small.{IsSmall};
 ghost use Rattle.vl_drive.specs.Steps.{history_by};
+ghost use Rattle.vl_engine_model.specs.Decides.{Answered};
 ghost use Rattle.vl_engine_model.specs.Rulings.Begin.{begin_ruling};
 ghost use Rattle.vl_engine_model.specs.Rulings.Commit.{commit_ruling};
+ghost use Rattle.vl_engine_model.specs.Rulings.Forget.{forget_ruling};
 ghost use Rattle.vl_model.specs.History.{History, value_at};
-ghost use Rattle.vl_model.specs.Keys.{Writes, untagged};
+ghost use Rattle.vl_model.specs.Keys.{Writes, is_key_length, untagged};
 ghost use Rattle.vl_model.specs.Reads.{KeyRead, Read};
 ghost use Rattle.vl_model.specs.declared.change.Change.TheVariants.{Set};
 
@@ -19,7 +21,8 @@ use std::alloc::{AllocError, Global};
 use std::sync::Wait;
 use vl_model::Value;
 
-/// One session of a store, by which a thread makes the store's calls. Only what `drive` calls is asked for.
+/// One session of a store, by which a thread makes the store's calls. Only what `drive` and sequences of numbers call is
+/// asked for.
 ///
 /// `knows` is what it knows of the steps that all sessions made under the store's lock: a beginning of them, and its own.
 pub trait Shop: Drop {
@@ -47,9 +50,9 @@ pub trait Shop: Drop {
         ensures sees { IfOk result (λ txn. sees txn (history_by (knows self.new).origin (knows self.new).seen) []) }
         ensures new { IfOk result (λ txn. writes txn ≡ empty) };
 
-    /// The value of a key of one byte, which the transaction hasn't written. The read is noted.
+    /// The value of a lawful key, which the transaction hasn't written. The read is noted.
     fn get(&mut self, txn: &mut Self::Txn, key: &[u8]) -> Result<Option<Value>, ReadFail>
-        requires key { length key.now ≡ 1 }
+        requires key { is_key_length (length key.now) ≡ true }
         requires unwritten { get (writes txn.old) key.now ≡ None }
         requires sees { (h : History) × (reads : List Read) × sees txn.old h reads }
         ensures looks { Looks (knows self.old) (knows self.new) }
@@ -62,10 +65,10 @@ pub trait Shop: Drop {
         ensures writes { writes txn.new ≡ writes txn.old }
         ensures faults { IsCounted (is_read_fault result) (knows self.old) (knows self.new) };
 
-    /// Writes a value of 80 bytes to a key of one byte, in a transaction with less than 64 such writes.
+    /// Writes a value of at most 80 bytes to a lawful key, in a transaction with less than 64 such writes.
     fn set(&mut self, txn: &mut Self::Txn, key: &[u8], value: &[u8]) -> Result<(), AllocError>
-        requires key { length key.now ≡ 1 }
-        requires value { length value.now ≡ 80 }
+        requires key { is_key_length (length key.now) ≡ true }
+        requires value { length value.now ≤ 80 }
         requires small { IsSmall (writes txn.old) }
         ensures looks { Looks (knows self.old) (knows self.new) }
         ensures sees { (h : History) (reads : List Read) → sees txn.old h reads → sees txn.new h reads }
@@ -83,6 +86,13 @@ pub trait Shop: Drop {
             (commit_entry (ticket txn) (entries (writes txn))) (commit_outcome result) }
         ensures back { (back : Self.Txn) → handed_back result ≡ Some back → back ≡ txn }
         ensures faults { IsCounted (is_commit_fault result) (knows self.old) (knows self.new) };
+
+    /// Ends a transaction of this session, which isn't committed.
+    fn forget<R: Wait>(&mut self, rt: &R, txn: Self::Txn)
+        requires own { IsOwnTicket (knows self.old) (ticket txn) (number txn) }
+        ensures steps { Stepped (knows self.old) (knows self.new)
+            (λ l h. forget_ruling l h (asked (ticket txn) (number txn) [] (entries (writes txn))))
+            (forget_entry (ticket txn)) (Answered tt) };
 
     /// Seals the active log and begins a new one.
     fn rotate<R: Wait>(&mut self, rt: &R) -> Result<(), StepFail>

@@ -1,4 +1,5 @@
 ghost use Rattle.std.specs.Prelude.{◌≡◌, ◌≤◌, List, IfOk, length, map};
+ghost use Rattle.std.specs.FinMap.{empty};
 ghost use Rattle.vl_drive.specs.Driven.{IsClosed};
 ghost use Rattle.vl_drive.specs.Knowing.{Knows};
 ghost use Rattle.vl_drive.specs.Steps.{history_by};
@@ -26,6 +27,8 @@ pub trait Shops: Drop {
         requires { (1 ≤ count) × (count ≤ 64) }
         ensures count { IfOk result (λ r. (length r.1.items ≡ count) × ((opened r.0).count ≡ count)) }
         ensures number { IfOk result (λ r. (opened r.0).origin.number ≡ 0) }
+        // No key has a value before the first step.
+        ensures base { IfOk result (λ r. (opened r.0).origin.base ≡ empty) }
         // Nothing lives in it.
         ensures nothing { IfOk result (λ r. HasOpen nothing_open (opened r.0).origin.layout) }
         ensures first { IfOk result (λ r. AreFirst (opened r.0) 0 (map Self.Shop.knows r.1.items)) };

@@ -2,6 +2,7 @@
 ghost use Rattle.std.specs.Prelude.{◌≡◌, ◌<◌, ◌≤◌, ◌^◌, IfOk};
 ghost use Rattle.vl_drive.specs.Accounts.{total_after};
 ghost use Rattle.vl_drive.specs.Driven.{HasDriven};
+ghost use Rattle.vl_drive.specs.Steps.{history_by};
 ghost use Rattle.vl_model.specs.History.{History};
 
 use crate::accounts::balance_in;
@@ -20,7 +21,8 @@ pub struct Driven {
     pub total: u64,
 }
 
-/// Opens a store, lets so many clients take so many turns each over it, beside its upkeep, and closes it.
+/// Opens a store, lets so many clients take so many turns each over it, beside its upkeep, and closes it. What it
+/// held then is handed out too.
 ///
 /// Nothing but memory may be wanting. It may wait for ever where its shops do, and where a log has no room for one
 /// commit.
@@ -30,20 +32,23 @@ pub fn drive_store<T: Shops, R: Threads + Wait + Sync>(
     clients: u32,
     txns: u32,
     seed: u64,
-) -> Result<Driven, AllocError>
+) -> Result<(Driven, T::Closed), AllocError>
     requires { (1 ≤ clients) × (clients ≤ 16) }
-    ensures { IfOk result (HasDriven clients txns seed) }
+    // The list of all steps is the closed store's own: what it shows is what the list comes to.
+    ensures { IfOk result (λ r. (driven : HasDriven clients txns seed r.0)
+        × T.Closed.shows r.1 (history_by driven.origin driven.list)) }
 {
     let (store, shops) = T::open(alloc, clients + 1)?;
     match drive(rt, alloc, shops, &NoGate, txns, seed) {
         Ok((tally, shops)) => {
             let mut closed = store.close(rt, alloc, shops)?;
             let total = total(&mut closed)?;
-            Ok(Driven {
+            let driven = Driven {
                 commits: tally.commits,
                 conflicts: tally.conflicts,
                 total,
-            })
+            };
+            Ok((driven, closed))
         }
         Err(DriveFail::NoMemory) => Err(AllocError),
         Err(DriveFail::Stopped { shops, .. }) => {
@@ -57,7 +62,9 @@ pub fn drive_store<T: Shops, R: Threads + Wait + Sync>(
 // The sum of all balances.
 fn total<C: Closed>(closed: &mut C) -> Result<u64, AllocError>
     requires shown { (h : History) × C.shows closed.old h × (total_after h < 2 ^ 64) }
-    ensures { (h : History) → C.shows closed.old h → IfOk result (λ total. total ≡ total_after h) }
+    ensures total { (h : History) → C.shows closed.old h
+        → IfOk result (λ total. total ≡ total_after h) }
+    ensures still { (h : History) → C.shows closed.old h → C.shows closed.new h }
 {
     let mut total = 0;
     for account in 0..64 {

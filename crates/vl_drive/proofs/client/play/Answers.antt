@@ -1,4 +1,5 @@
 use Rattle.std.proofs.Common.{Bool, refl, ap, ◌∙◌, subst, arith}
+use Rattle.vl_drive.proofs.Meeting.{met_none, met_turn}
 use Rattle.vl_drive.proofs.Modesty.{idle_modest, idle_new, modest_more}
 use Rattle.vl_drive.proofs.Playing.{on_itself, on_then}
 use Rattle.vl_drive.proofs.Scoring.{draws, next_turn, score_none, turn_committed, turn_refused}
@@ -10,7 +11,7 @@ use Rattle.vl_drive.proofs.client.play.Goals as goal
 pub loop-turn-init : goal.loop-turn-init
 loop-turn-init g c =
     let v = g.S.Shop.knows c.args.shop.now in
-    (on_itself v, refl, refl, λ none. score_none (draws c.args.seed) v none, λ none. idle_new v none)
+    (on_itself v, refl, refl, λ none. score_none (draws c.args.seed) v none, λ none. idle_new v none, λ none. met_none v none)
 
 pub loop-turn-preserved : goal.loop-turn-preserved
 loop-turn-preserved g c =
@@ -37,6 +38,7 @@ loop-turn-preserved g c =
         λ none. turn_committed seed turn score.commits score.conflicts x t u w inv.1 is (inv.3 none)
             (subst (λ (committed : Bool). HasTaken t committed u w) b.if-branch.true taken),
         λ none. c.in_ok-take_turn.ensures.idle turn (inv.4 none),
+        λ none. met_turn v.seen t _ u w (inv.5 none) taken,
       )
       | else-branch b ↦ rw b.score-is (
         on,
@@ -45,6 +47,7 @@ loop-turn-preserved g c =
         λ none. turn_refused seed turn score.commits score.conflicts x t u w inv.1 is (inv.3 none)
             (subst (λ (committed : Bool). HasTaken t committed u w) b.if-branch.false taken),
         λ none. c.in_ok-take_turn.ensures.idle turn (inv.4 none),
+        λ none. met_turn v.seen t _ u w (inv.5 none) taken,
       )
     ]
 

@@ -4,9 +4,10 @@ use Rattle.vl_drive.proofs.Modesty.{busy_as, busy_looked, busy_modest, on_err}
 use Rattle.vl_drive.proofs.Playing.{looks_then}
 use Rattle.vl_drive.proofs.Small.{small_below, small_more, small_none, some_written}
 use Rattle.vl_drive.proofs.Turning.{reads_of, turn_done}
-use Rattle.vl_drive.specs.Accounts.{IsSmall, account_key, added, balance_in, moved, with_balance}
+use Rattle.vl_drive.specs.Accounts.{account_key, added, balance_in, moved, with_balance}
 use Rattle.vl_drive.specs.Answers.{asked}
 use Rattle.vl_drive.specs.Playing.{HasEnded}
+use Rattle.vl_drive.specs.Small.{IsSmall}
 use Rattle.vl_drive.specs.Steps.{history_by}
 use Rattle.vl_model.specs.History.{value_at}
 use Rattle.vl_model.specs.Reads.{KeyRead}

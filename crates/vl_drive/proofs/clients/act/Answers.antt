@@ -17,8 +17,9 @@ returns g c =
       | then-player w ↦ rw w.player-is (rw w.player2-is (record {
         on = w.keep_up-player.ensures.on;
         played = λ plays none. absurd (false≢true (sym plays ∙ w.if-player.true));
-        kept_up = λ keeps opened. kept_of (HasOpened (knows w.keep_up-player.new.shop)) w.keep_up-player.result
-            w.keep_up-player.ensures.none (w.keep_up-player.ensures.opened opened);
+        met = λ plays none. absurd (false≢true (sym plays ∙ w.if-player.true));
+        kept_up = λ keeps note opened. kept_of (HasOpened note (knows w.keep_up-player.new.shop)) w.keep_up-player.result
+            w.keep_up-player.ensures.none (w.keep_up-player.ensures.opened note opened);
         modest = λ plays none. absurd (false≢true (sym plays ∙ w.if-player.true));
         still_modest = λ keeps modest. w.keep_up-player.ensures.modest txns modest;
         count = none_up txns w.keep_up-player.result w.keep_up-player.ensures.none;
@@ -29,7 +30,8 @@ returns g c =
         played = λ plays none. subst (λ s. IfOk w.play-player.result (λ (score : Score).
             HasScored (draws s) txns score.commits score.conflicts (knows w.play-player.new.shop)))
             w.seed_of.ensures (w.play-player.ensures.scored none);
-        kept_up = λ keeps opened. absurd (false≢true (sym w.if-player.false ∙ keeps));
+        met = λ plays none. w.play-player.ensures.met none;
+        kept_up = λ keeps note opened. absurd (false≢true (sym w.if-player.false ∙ keeps));
         modest = λ plays none. w.play-player.ensures.modest none;
         still_modest = λ keeps modest. absurd (false≢true (sym w.if-player.false ∙ keeps));
         count = count_up txns w.play-player.result w.play-player.ensures.count;

@@ -7,15 +7,16 @@ use Rattle.vl_drive.specs.Clients.{HasOpened, IsNewAt}
 use Rattle.vl_drive.specs.Knowing.{GoesOn}
 use Rattle.vl_drive.specs.Modest.{IsModest}
 use Rattle.vl_drive.specs.Players.{AreSeated, IsSeated}
+use mathlib.Core.List.{IsPrefix}
 use Rattle.vl_drive.proofs.clients.seated.Goals as goal
 
-pub meet-requires : goal.meet-requires
-meet-requires g c =
+pub introduced-requires-clause-store : goal.introduced-requires-clause-store
+introduced-requires-clause-store g c κs within =
     let knows = g.S.Shop.knows in
     let inv = c.loop-shop.invariant in
     let more : into_iter_items c.loop-shop.shop-iterator ≡ c.in-Some.shop ∷ into_iter_items c.next.new.self = c.in-Some.ensures.steps.0 in
     let rest = subst (λ xs. AllByRecursion (IsNewAt (knows c.args.keeper).store) (map knows xs)) more inv.1 in
-    ap (λ n. n.store) c.in_ok-note.ensures.note ∙ ap (λ v. v.store) inv.0 ∙ sym rest.0.store_is
+    ap (λ v. v.store) inv.0 ∙ sym rest.0.store_is
 
 pub loop-shop-preserved : goal.loop-shop-preserved
 loop-shop-preserved g c =
@@ -32,21 +33,24 @@ loop-shop-preserved g c =
     let counted = map_length knows met.0 in
     let number = c.seat-player.ensures.client in
     let before = met.3 in
-    let seat : IsSeated knows (0 + length (map knows met.0)) (knows shop) player = record {
+    let note = (knows c.args.keeper).seen in
+    let seat : IsSeated knows note (0 + length (map knows met.0)) (knows shop) player = record {
       number = omega (arith, counted, number, before);
       plays = c.seat-player.ensures.keeps_up;
-      on = subst (λ s. GoesOn (knows shop) (knows s)) (sym c.seat-player.ensures.shop) c.meet.ensures.on;
-      own = ap (λ s. (knows s).own) c.seat-player.ensures.shop ∙ c.meet.ensures.own ∙ rest.0.own;
+      on = subst (λ s. GoesOn (knows shop) (knows s)) (sym c.seat-player.ensures.shop) c.in_ok-met.ensures.met.on;
+      own = ap (λ s. (knows s).own) c.seat-player.ensures.shop ∙ c.in_ok-met.ensures.met.own ∙ rest.0.own;
+      met = subst (λ s. IsPrefix note (knows s).seen) (sym c.seat-player.ensures.shop)
+          (subst (λ v. IsPrefix v.seen (knows c.in_ok-met.met).seen) inv.0 c.in_ok-met.ensures.met.noted);
     } in
-    let seated = seated_more knows 0 (map knows met.0) players (knows shop) player met.2 seat in (
-      c.note.ensures.same ∙ inv.0,
+    let seated = seated_more knows note 0 (map knows met.0) players (knows shop) player met.2 seat in (
+      c.introduced.ensures.same ∙ inv.0,
       rest.1,
       let was = inv.2 in let gone = c.in-Some.ensures.steps.1 in let short = ap length more in omega arith,
       (
         met.0 ++ shop ∷ [],
         append_assoc met.0 (shop ∷ []) left ∙ (ap (λ xs. met.0 ++ xs) (sym more) ∙ met.1),
-        subst (λ ps. AreSeated knows 0 (map knows (met.0 ++ shop ∷ [])) ps) (sym items)
-            (subst (λ vs. AreSeated knows 0 vs (players ++ player ∷ [])) (sym (map_more knows met.0 shop)) seated),
+        subst (λ ps. AreSeated knows note 0 (map knows (met.0 ++ shop ∷ [])) ps) (sym items)
+            (subst (λ vs. AreSeated knows note 0 vs (players ++ player ∷ [])) (sym (map_more knows met.0 shop)) seated),
         omega (arith, before, length-append met.0 (shop ∷ [])),
       ),
     )
@@ -65,11 +69,11 @@ returns-clause-ready g c =
       players,
       last,
       items,
-      subst (λ xs. AreSeated knows 0 (map knows xs) players) all met.2,
+      subst (λ xs. AreSeated knows (knows c.args.keeper).seen 0 (map knows xs) players) all met.2,
       record {
         keeps = c.seat-last.ensures.keeps_up;
         on = subst (GoesOn (knows c.args.keeper)) (sym same) (on_itself (knows c.args.keeper));
-        opened = subst HasOpened (sym same) c.requires.opened;
+        opened = subst (HasOpened (knows c.args.keeper).seen) (sym same) c.requires.opened;
         modest = subst (IsModest 0) (sym same) c.requires.modest;
       },
     )
@@ -85,7 +89,7 @@ returns-clause-few g c =
     let none : into_iter_items c.loop-shop.shop-iterator ≡ [] = nothing_left _ (sym inv.2 ∙ c.in-None.ensures.steps.0) in
     let all = sym (append-nil met.0) ∙ (ap (λ xs. met.0 ++ xs) (sym none) ∙ met.1) in
     let long = ap length items ∙ length-append players (last ∷ []) in
-    let seated = seated_length knows 0 (map knows met.0) players met.2 in
+    let seated = seated_length knows (knows c.args.keeper).seen 0 (map knows met.0) players met.2 in
     let mapped = map_length knows met.0 in
     let whole = ap length all in
     let few = c.requires.few in

@@ -12,4 +12,4 @@ invariant-loop-shop g l =
     × AllByRecursion (IsNewAt (knows l.fn.keeper).store) (map knows (into_iter_items l.shop-iterator))
     × (into_iter_len l.shop-iterator ≡ length (into_iter_items l.shop-iterator))
     × ((met : List _) × (met ++ into_iter_items l.shop-iterator ≡ l.fn.shops.items)
-    × AreSeated knows 0 (map knows met) l.players.items × (length met ≡ l.client))
+    × AreSeated knows (knows l.fn.keeper).seen 0 (map knows met) l.players.items × (length met ≡ l.client))

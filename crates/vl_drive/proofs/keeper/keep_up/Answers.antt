@@ -19,8 +19,8 @@ loop-preserved g c =
     let t = c.sweep.ensures.steps in (
       on_then v u five c.loop.invariant.0 (on_then u one five p.on (on_then one two five q.on (on_then two three five r.on
           (on_then three four five s.on t.on)))),
-      λ opened. opened_later four five (opened_later three four (opened_later two three (opened_later one two
-          (opened_later u one (c.loop.invariant.1 opened) p) q) r) s) t,
+      λ note opened. opened_later note four five (opened_later note three four (opened_later note two three (opened_later note one two
+          (opened_later note u one (c.loop.invariant.1 note opened) p) q) r) s) t,
       λ turns modest. aside_modest four five t turns (aside_modest three four s turns (aside_modest two three r turns (aside_modest one two q turns
           (aside_modest u one p turns (c.loop.invariant.2 turns modest))))),
     )

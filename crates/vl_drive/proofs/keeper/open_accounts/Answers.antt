@@ -4,9 +4,10 @@ use Rattle.vl_drive.proofs.Keeping.{opens}
 use Rattle.vl_drive.proofs.Modesty.{busy_as, busy_looked, busy_modest, idle_new, idle_next}
 use Rattle.vl_drive.proofs.Playing.{looks_itself, looks_then}
 use Rattle.vl_drive.proofs.Small.{first_more, small_below, small_first, some_first}
-use Rattle.vl_drive.specs.Accounts.{IsSmall, first_balances, with_balance}
+use Rattle.vl_drive.specs.Accounts.{first_balances, with_balance}
 use Rattle.vl_drive.specs.Answers.{asked}
 use Rattle.vl_drive.specs.Playing.{HasEnded}
+use Rattle.vl_drive.specs.Small.{IsSmall}
 use Rattle.vl_drive.specs.Steps.{history_by}
 use Rattle.vl_drive.proofs.keeper.open_accounts.Goals as goal
 

@@ -4,8 +4,9 @@ use Rattle.vl_drive.proofs.WholeList.{list-driven}
 use Rattle.vl_drive.proofs.WholeStore.{first_new, none_stops, numbers_reach, of_later, total_fits, zip_length}
 use Rattle.vl_drive.specs.Accounts.{total_after}
 use Rattle.vl_drive.specs.Clients.{count_all}
-use Rattle.vl_drive.specs.Driven.{IsDriven}
+use Rattle.vl_drive.specs.Driven.{HasDriven, IsDriven}
 use Rattle.vl_drive.specs.Steps.{history_by, is_put}
+use Rattle.vl_drive.specs.declared.store_run.Driven.{Driven}
 use Rattle.vl_drive.proofs.store_run.drive_store.Goals as goal
 
 pub drive-requires-clause-new : goal.drive-requires-clause-new
@@ -94,11 +95,17 @@ returns-in_ok-total-in-Ok g c =
     let count = c.in_ok-store.ensures.count.0 in
     let driven = list-driven o c.args.clients c.args.seed c.args.txns now closed.0 (omega (arith, same, long, count)) c.in-Ok.ensures.driven
     closed.1 in
-    record {
+    let came : Driven = record {
+      commits = c.in-Ok.tally.commits;
+      conflicts = c.in-Ok.tally.conflicts;
+      total = c.in_ok-total-in-Ok.total;
+    } in
+    let has : HasDriven c.args.clients c.args.txns c.args.seed came = record {
       origin = o;
       list = closed.0;
       new = c.in_ok-store.ensures.number;
       driven = subst (λ n. IsDriven o c.args.clients c.args.txns c.args.seed n c.in-Ok.tally.conflicts closed.0) (sym c.in-Ok.ensures.commits)
           (subst (λ n. IsDriven o c.args.clients c.args.txns c.args.seed (count_all is_put now) n closed.0) (sym c.in-Ok.ensures.conflicts) driven);
-      total = c.in_ok-total-in-Ok.ensures (history_by o closed.0) closed.2;
-    }
+      total = c.in_ok-total-in-Ok.ensures.total (history_by o closed.0) closed.2;
+    } in
+    (has, c.total.ensures.still (history_by o closed.0) closed.2)

@@ -27,8 +27,8 @@ loop-account-preserved g c =
           (c.balance_in.ensures ∙ ap balance_in (c.in_ok-get.ensures.value h (inv.0 h shown))),
     )
 
-pub returns : goal.returns
-returns g c h shown =
+pub returns-clause-total : goal.returns-clause-total
+returns-clause-total g c h shown =
     let below = c.loop-account-test.false in
     let end = c.loop-account.auto.account-end in
     let all : c.loop-account.account ≡ 64 = omega (arith, below, end) in
