@@ -1,0 +1,14 @@
+pub mod Beginnings
+pub mod Committed
+pub mod Committing
+pub mod Gathering
+pub mod Giving
+pub mod Leased
+pub mod Numbering
+pub mod Stopping
+pub mod Taking
+pub mod Telling
+pub mod Tickets
+pub mod Values
+pub mod WholeIds
+pub mod Writing

@@ -1,0 +1,2 @@
+pub mod LeaseLaws
+pub mod TakingLaws
