@@ -28,7 +28,7 @@ use Rattle.vl_recover.specs.laws.opening.OpeningLaws.{single_opening}
 use Rattle.vl_recover.specs.laws.repairing.StageLaws.{ok_same}
 use Rattle.vl_recover.specs.opening.Answers.{Finds}
 use Rattle.vl_recover.specs.opening.Opening.{Bare, FoundTable, IsAmong, NamedLevels, Opening, Refusal, led_into, led_through}
-use Rattle.vlstore.specs.Lists.{history_by}
+use Rattle.vlstore.specs.Lists.{history_by, past_of}
 use Rattle.vlstore.specs.Shops.{first_origin}
 
 pub none_some : {X : Type 0} (x : X) → None ≡ Some x → ⊥
@@ -93,10 +93,13 @@ finds_nothing = record {
   standing = λ m _. nothing (Log m);
 }
 
--- the history behind no steps of a new store is that of no commits
+-- nothing is known of versions before the first step of a new store
+pub first_base : past_of first_origin.base ≡ empty
+first_base = empty_of_len (from_sorted []) (len-entries (from_sorted []) ∙ ap length (entries-from_sorted nat_cmp [] tt))
+
+-- so the history behind no steps is that of no commits
 pub first_history : no_history ≡ history_by first_origin []
-first_history = ap (λ (base : Past). record { first = 0; base = base; commits = [] })
-    (sym (empty_of_len (from_sorted []) (len-entries (from_sorted []) ∙ ap length (entries-from_sorted nat_cmp [] tt))))
+first_history = ap (λ (base : Past). record { first = 0; base = base; commits = [] }) (sym first_base)
 
 -- and that is shown, without tables
 abbrev pub shown_first : Shown empty (history_by first_origin []) (last_number (history_by first_origin []))

@@ -1,5 +1,5 @@
 -- What a shop reads and writes in a transaction.
-use Rattle.std.proofs.Common.{◌≡◌, ℕ, ◌==◌, cond, List, [], ◌∷◌, ◌++◌, length, refl, sym, ap, ◌∙◌, subst}
+use Rattle.std.proofs.Common.{◌≡◌, ℕ, Bool, true, cond, List, [], ◌∷◌, ◌++◌, length, refl, sym, ap, ◌∙◌, subst}
 use Rattle.std.specs.FinMap.{get, insert}
 use Rattle.std.specs.Prelude.{IfOk, IsOk, None, OnOk, Option, Result, Ok, Err, Some, is_some, nat_le, ⊤}
 use Rattle.vl_disk.specs.Faults.{HasCause}
@@ -7,7 +7,7 @@ use Rattle.vl_reads.specs.Reading.{IsRefusedBy, IsSound, ReadFailed}
 use Rattle.vl_reads.specs.declared.fails.ReadFail.{ReadFail}
 use Rattle.vl_reads.specs.declared.fails.ReadFail.TheVariants as why
 use Rattle.vl_model.specs.History.{value_left}
-use Rattle.vl_model.specs.Keys.{Stored, Writes}
+use Rattle.vl_model.specs.Keys.{Stored, Writes, is_key_length}
 use Rattle.vl_model.specs.Limits.{max_key_bytes}
 use Rattle.vl_model.specs.Reads.{KeyRead, Read}
 use Rattle.vl_model.specs.declared.change.Change.{Change}
@@ -18,31 +18,32 @@ use Rattle.vl_txn.specs.declared.key_fail.KeyFail.TheVariants.{EmptyKey, KeyTooL
 use Rattle.vl_txn.specs.declared.set_fail.SetFail.{SetFail}
 use Rattle.vl_txn.specs.declared.set_fail.SetFail.TheVariants as set_fails
 use Rattle.vlstore.specs.Shops.{IsOnlyWant, IsOnlyWantOfSet}
+use Rattle.vlstore.proofs.KeyLengths.{key_within, short_key, some_key}
 use Rattle.vlstore.proofs.PassLaws.{none_rose}
 
--- ---- keys of one byte
+-- ---- lawful keys
 
-key_taken : (key : List ℕ) → length key ≡ 1 → refused_key key ≡ None
-key_taken key one = of (length key) one
-  where
-    of : (n : ℕ) → n ≡ 1
-        → cond (n == 0) (Some EmptyKey) (cond (nat_le n max_key_bytes) None (Some KeyTooLong)) ≡ None
-    of n is = subst (λ (m : ℕ). cond (m == 0) (Some EmptyKey) (cond (nat_le m max_key_bytes) None (Some KeyTooLong)) ≡ None) (sym is) refl
+key_taken : (key : List ℕ) → is_key_length (length key) ≡ true → refused_key key ≡ None
+key_taken key lawful =
+    let within = key_within (length key) lawful in
+    ap (λ (b : Bool). cond b (Some EmptyKey) (cond (nat_le (length key) max_key_bytes) None (Some KeyTooLong)))
+    (some_key (length key) within.0)
+    ∙ ap (λ (b : Bool). cond b None (Some KeyTooLong)) (short_key (length key) within.1)
 
 not_both : (o : Option KeyFail) (k : KeyFail) → o ≡ None → o ≡ Some k → ⊥
 not_both o k none some = let no : None ≡ Some k = sym none ∙ some in absurd cc
 
 -- only memory may be wanting
-pub read_sound : {T : Type 0} (key : List ℕ) (before now : ℕ) (r : Result T ReadFail) → length key ≡ 1
+pub read_sound : {T : Type 0} (key : List ℕ) (before now : ℕ) (r : Result T ReadFail) → is_key_length (length key) ≡ true
     → IsRefusedBy (refused_key key) r → HasCause before now (ReadFailed r) → before ≡ 0 → now ≡ 0 → IsSound r → IsOnlyWant r
-read_sound key before now (Ok answer) one refused cause was is sound = tt
-read_sound key before now (Err why.EmptyKey) one refused cause was is sound =
-    not_both (refused_key key) EmptyKey (key_taken key one) refused
-read_sound key before now (Err why.KeyTooLong) one refused cause was is sound =
-    not_both (refused_key key) KeyTooLong (key_taken key one) refused
-read_sound key before now (Err why.NoMemory) one refused cause was is sound = tt
-read_sound key before now (Err (why.Disk name)) one refused cause was is sound = none_rose before now was is (cause.rose tt)
-read_sound key before now (Err (why.Damaged name place)) one refused cause was is sound = sound tt
+read_sound key before now (Ok answer) lawful refused cause was is sound = tt
+read_sound key before now (Err why.EmptyKey) lawful refused cause was is sound =
+    not_both (refused_key key) EmptyKey (key_taken key lawful) refused
+read_sound key before now (Err why.KeyTooLong) lawful refused cause was is sound =
+    not_both (refused_key key) KeyTooLong (key_taken key lawful) refused
+read_sound key before now (Err why.NoMemory) lawful refused cause was is sound = tt
+read_sound key before now (Err (why.Disk name)) lawful refused cause was is sound = none_rose before now was is (cause.rose tt)
+read_sound key before now (Err (why.Damaged name place)) lawful refused cause was is sound = sound tt
 
 -- ---- a key that isn't written
 

@@ -36,6 +36,7 @@ use Rattle.vl_engine_model.specs.Rulings.Commit.{commit_unless, committed}
 use Rattle.vl_engine_model.specs.Relocation.{Candidate, Pass, moved_of}
 use Rattle.vl_engine_model.specs.Rulings.EndPass.{end_pass_ruling, without_pass}
 use Rattle.vl_engine_model.specs.Rulings.Flush.{flush_of, flush_ruling, flush_unless, flushed}
+use Rattle.vl_engine_model.specs.Rulings.Forget.{forget_ruling}
 use Rattle.vl_engine_model.specs.Rulings.Pick as pick
 use Rattle.vl_engine_model.specs.Rulings.Pick.{PickAnswer, pick_ruling}
 use Rattle.vl_engine_model.specs.Rulings.Relocate as relocate
@@ -63,7 +64,7 @@ use Rattle.vl_model.specs.declared.log_frame.LogFrame.TheVariants.{Relocated}
 use Rattle.vl_model.specs.declared.log_frame.Moved.{Moved}
 use Rattle.vl_oracle.specs.declared.begin_fail.BeginFail.{BeginFail}
 use Rattle.vl_turn.specs.Entries.{with_entry}
-use Rattle.vlstore.specs.Entries.{Done, begin_entry, commit_entry, done_by, end_pass_entry, entry_of, flush_entry, pick_done}
+use Rattle.vlstore.specs.Entries.{Done, begin_entry, commit_entry, done_by, end_entry, end_pass_entry, entry_of, flush_entry, pick_done}
 use Rattle.vlstore.specs.Entries.{pick_entry, relocate_entry, rotate_entry, step_done, sweep_done, sweep_entry}
 use Rattle.vlstore.specs.Knowing.{GoesOn, IsOwnPass, Knows, Looked, Meets, Noted, Stepped}
 use Rattle.vlstore.specs.Lists.{history_by, layout_by}
@@ -314,6 +315,11 @@ module _ {sure : Type 0} (v w : Knows) (on : GoesOn v w) where
   commits_so t outcome outcome' same step =
       stepped_so v w (λ l h. commit_ruling l h t) (commit_entry t.ticket t.writes) outcome on step same
       (λ n l h. commit_same t.ticket t.writes n l h outcome)
+
+  pub forgets_so : (t : Transaction) → Stepped sure v w (λ l h. forget_ruling l h t) (end_entry t.ticket) (Answered tt)
+      → drive.Stepped (known_by v) (known_by w) (λ l h. forget_ruling l h t) (drive_entries.forget_entry t.ticket) (Answered tt)
+  forgets_so t step =
+      stepped_so v w (λ l h. forget_ruling l h t) (end_entry t.ticket) (Answered tt) on step refl (λ n l h. refl)
 
 -- ---- none fails
 

@@ -5,6 +5,8 @@ mod calls;
 mod collecting;
 mod ends;
 mod hand;
+mod marks;
+mod reopen;
 mod sure;
 
 ghost use Rattle.std.specs.Prelude.{◌≡◌, None, true};

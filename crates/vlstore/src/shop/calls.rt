@@ -72,6 +72,14 @@ impl Shop for SureSession<SureDisk> {
         as_commit(self.session.commit(rt, txn))
     }
 
+    fn forget<R: Wait>(
+        &mut self,
+        rt: &R,
+        txn: Txn<<SureDisk as Disk>::Held, Cached<<SureDisk as Disk>::Reader>>,
+    ) {
+        self.session.forget(rt, txn);
+    }
+
     fn rotate<R: Wait>(&mut self, rt: &R) -> Result<(), vl_drive::StepFail> {
         as_step(self.session.rotate(rt))
     }

@@ -1,5 +1,7 @@
 //! A store from its opening on an empty disk to its close, with all of its sessions as shops.
-ghost use Rattle.std.specs.Prelude.{◌≡◌, [], List, Some, IfOk, is_some, length, map, true};
+ghost use Rattle.std.specs.Option.{ForSome};
+ghost use Rattle.std.specs.Prelude.{◌≡◌, [], List, None, Some, IfOk, is_some, length, map, true};
+ghost use Rattle.std.specs.FinMap.{empty};
 ghost use Rattle.vl_disk.specs.DiskState.{empty_disk};
 ghost use Rattle.vl_drive.specs.Driven.{IsClosed};
 ghost use Rattle.vl_drive.specs.Stores as drive;
@@ -7,6 +9,7 @@ ghost use Rattle.vl_reads.specs.Sees.{SeesAlone};
 ghost use Rattle.vl_engine_model.specs.declared.lock_history.LockEntry.{LockEntry};
 ghost use Rattle.vl_model.specs.History.{last_number};
 ghost use Rattle.vlstore.specs.Lists.{history_by};
+ghost use Rattle.vlstore.specs.Reopening.{Keeps};
 ghost use Rattle.vlstore.specs.Shops.{first_origin, known_of, opened_by, origin_of};
 ghost use Rattle.vlstore.specs.Standing.{NeverFails, Stands, parts};
 
@@ -43,6 +46,7 @@ pub(super) fn open_all<D: Unfailing + Drop>(
 ) -> Result<(Store<D>, Vec<SureSession<D>>), AllocError>
     requires empty { D.told disk ≡ Some empty_disk }
     ensures origin { IfOk result (λ r. r.0.origin ≡ first_origin) }
+    ensures base { IfOk result (λ r. (opened_by r.0).origin.base ≡ empty) }
     ensures tells { IfOk result (λ r. r.0.tells ≡ true) }
     ensures count { IfOk result (λ r. (r.0.session ≡ count) × (length r.1.items ≡ count)) }
     ensures first { IfOk result (λ r. drive.AreFirst (opened_by r.0) 0 (map known_of r.1.items)) }
@@ -60,7 +64,8 @@ pub(super) fn open_all<D: Unfailing + Drop>(
     }
 }
 
-// What the store holds when it was closed with all of its shops: its engine, and a view of all that was committed.
+// What the store holds when it was closed with all of its shops: its engine, whose disk keeps all that was committed,
+// and a view of that.
 pub(super) fn close_all<D: Unfailing + Drop, R: Wait>(
     store: Store<D>,
     rt: &R,
@@ -68,12 +73,14 @@ pub(super) fn close_all<D: Unfailing + Drop, R: Wait>(
     shops: Vec<SureSession<D>>,
 ) -> Result<(Engine<D>, View<D::Held, Cached<D::Reader>>), AllocError>
     requires tells { store.tells ≡ true }
+    requires runs { store.origin.layout.halted ≡ None }
     requires all { length shops.items ≡ store.session }
     requires of { drive.AreOf (opened_by store) 0 (map known_of shops.items) }
     ensures { IfOk result (λ r. (list : List LockEntry)
         × IsClosed (origin_of store.origin) (map known_of shops.items) list
         × SeesAlone D.Held.bytes r.1 (history_by store.origin list)
-        × (r.1.number ≡ last_number (history_by store.origin list))) }
+        × (r.1.number ≡ last_number (history_by store.origin list))
+        × ForSome (D.told r.0.disk) (Keeps (history_by store.origin list))) }
 {
     let sessions = all_sessions(alloc, shops)?;
     let mut engine = store.close(rt, sessions);

@@ -1,23 +1,25 @@
 //! A store in memory that never fails, with sure sessions, and what it holds when it was closed.
-ghost use Rattle.std.specs.Prelude.{◌≡◌, true};
+ghost use Rattle.std.specs.Prelude.{◌≡◌, None, true};
 
 use super::SureSession;
 use super::ends::{close_all, open_all};
+use super::reopen::open_again;
 use crate::store::Store;
 use std::alloc::{AllocError, Global};
 use std::sync::Wait;
 use vl_cache::Cached;
 use vl_disk::Disk;
 use vl_drive::{Closed, Shops};
-use vl_engine::{Engine, View};
+use vl_engine::{Engine, OpenError, View};
 use vl_mem::SureDisk;
 use vl_model::Value;
 
-/// A store over an empty disk in memory that never fails.
+/// A store over a disk in memory that never fails, which wasn't halted when it was made.
 #[derive(Drop)]
 pub struct SureStore {
     store: Store<SureDisk>,
     ghost tells: { store.tells ≡ true },
+    ghost runs: { store.origin.layout.halted ≡ None },
 }
 
 /// The engine of such a store, and a view of all that was committed.
@@ -27,15 +29,39 @@ pub struct SureEngine {
     view: View<<SureDisk as Disk>::Held, Cached<<SureDisk as Disk>::Reader>>,
 }
 
+impl SureStore {
+    ghost use Rattle.std.specs.Prelude.{IfErr, IfOk, length, map};
+    ghost use Rattle.vl_drive.specs.Stores.{AreFirst};
+    ghost use Rattle.vl_mem.specs.SureDisk.{state_on};
+    ghost use Rattle.vlstore.specs.Reopening.{GoesOnFrom, IsOnlyWantOfOpening, KeepsStore};
+    ghost use Rattle.vlstore.specs.Shops.{known_of, opened_by};
+
+    /// Opens the store that another one left on its disk when it was closed, also where that crashed since, with so many
+    /// sessions, 1 to 64. It goes on with all that was committed. It is refused for want of memory alone, or where a
+    /// number of a file is used up (`Exhausted`).
+    pub fn reopen(
+        alloc: Global,
+        disk: SureDisk,
+        count: u32,
+    ) -> Result<(SureStore, Vec<SureSession<SureDisk>>), OpenError>
+        requires { KeepsStore (state_on disk) }
+        ensures from { IfOk result (λ r. GoesOnFrom (state_on disk) (opened_by r.0.store).origin) }
+        ensures count { IfOk result (λ r. ((opened_by r.0.store).count ≡ count) × (length r.1.items ≡ count)) }
+        ensures first { IfOk result (λ r. AreFirst (opened_by r.0.store) 0 (map known_of r.1.items)) }
+        ensures refused { IfErr result IsOnlyWantOfOpening }
+    {
+        let (store, shops) = open_again(alloc, disk, count)?;
+        Ok((SureStore { store }, shops))
+    }
+}
+
 impl Shops for SureStore {
-    ghost use Rattle.std.specs.Prelude.{◌≡◌, List, Some, IfOk, length, map};
+    ghost use Rattle.std.specs.Prelude.{◌≡◌, List, IfOk, length, map};
     ghost use Rattle.vl_drive.specs.Driven.{IsClosed};
     ghost use Rattle.vl_drive.specs.Stores.{AreOf};
-    ghost use Rattle.vl_reads.specs.Sees.{SeesAlone};
     ghost use Rattle.vl_engine_model.specs.declared.lock_history.LockEntry.{LockEntry};
-    ghost use Rattle.vl_mem.specs.Held.{held_bytes};
-    ghost use Rattle.vl_model.specs.History.{last_number};
     ghost use Rattle.vlstore.specs.Lists.{history_by};
+    ghost use Rattle.vlstore.specs.Closing.{HoldsAll};
     ghost use Rattle.vlstore.specs.Shops.{known_of, opened_by, origin_of};
 
     type Shop = SureSession<SureDisk>;
@@ -59,21 +85,31 @@ impl Shops for SureStore {
         requires of { AreOf (opened_by self.store) 0 (map known_of shops.items) }
         ensures { IfOk result (λ closed. (list : List LockEntry)
             × IsClosed (opened_by self.store).origin (map known_of shops.items) list
-            × SeesAlone (λ held. Some (held_bytes held)) closed.view (history_by self.store.origin list)
-            × (closed.view.number ≡ last_number (history_by self.store.origin list))) }
+            × HoldsAll closed (history_by self.store.origin list)) }
     {
         let (engine, view) = close_all(self.store, rt, alloc, shops)?;
         Ok(SureEngine { engine, view })
     }
 }
 
-impl Closed for SureEngine {
-    ghost use Rattle.std.specs.Prelude.{◌≡◌, Some};
-    ghost use Rattle.vl_reads.specs.Sees.{SeesAlone};
-    ghost use Rattle.vl_mem.specs.Held.{held_bytes};
-    ghost use Rattle.vl_model.specs.History.{last_number};
+impl SureEngine {
+    ghost use Rattle.vl_mem.specs.SureDisk.{state_on};
+    ghost use Rattle.vl_model.specs.History.{History};
+    ghost use Rattle.vlstore.specs.Closing.{HoldsAll};
+    ghost use Rattle.vlstore.specs.Reopening.{Keeps};
 
-    ghost shows = { λ e h. SeesAlone (λ held. Some (held_bytes held)) e.view h × (e.view.number ≡ last_number h) };
+    /// The disk, which keeps all that was committed.
+    pub fn into_disk(self) -> SureDisk
+        ensures { (h : History) → HoldsAll self h → Keeps h (state_on result) }
+    {
+        self.engine.close()
+    }
+}
+
+impl Closed for SureEngine {
+    ghost use Rattle.vlstore.specs.Closing.{HoldsAll};
+
+    ghost shows = { HoldsAll };
 
     fn get(&mut self, key: &[u8]) -> Result<Option<Value>, AllocError> {
         match self.view.get(key) {

@@ -1,10 +1,13 @@
 use Rattle.std.proofs.Common.{length, map, refl, ap, sym, ◌∙◌, subst}
+use Rattle.std.specs.Option.{ForSome}
 use Rattle.vl_drive.specs.Driven.{IsClosed}
 use Rattle.vl_drive.specs.Stores as drive
 use Rattle.vlstore.specs.Lists.{history_by, layout_by}
+use Rattle.vlstore.specs.Reopening.{Keeps}
 use Rattle.vlstore.specs.Shops.{known_by, opened_by, origin_of, session_of}
 use Rattle.vlstore.specs.Standing.{NeverFails, parts}
 use Rattle.vlstore.specs.Stores.{AreAt}
+use Rattle.vlstore.proofs.ShopKept.{engine_keeps}
 use Rattle.vlstore.proofs.ShopStores.{at_so, begun_number, closed_so, map_long, map_same}
 use Rattle.vlstore.proofs.shop.ends.close_all.Goals as goal
 
@@ -30,9 +33,13 @@ returns-in-Ok g c =
     (subst (drive.AreOf (opened_by store) 0) known c.requires.of) closed in
     let h = history_by store.origin list in
     let l = layout_by store.origin list in
-    let stands = (closed.stands.behind c.requires.tells).whole.represents.stands in (
+    let behind = closed.stands.behind c.requires.tells in
+    let stands = behind.whole.represents.stands in
+    let kept = engine_keeps g.D.Held.HeldFile.bytes engine.core (g.D.Watched.told engine.disk) h l behind.whole.represents
+    (behind.runs g.met.D.Unfailing.unfailing c.requires.runs) in (
       list,
       subst (λ ks. IsClosed (origin_of store.origin) ks list) (sym known) is_closed,
       c.in-Ok.ensures.sees h l stands,
       begun_number l h c.in-Ok.view.ticket c.in-Ok.view.number ((c.in-Ok.ensures.decides h l stands.fronts).answered _ refl).0,
+      subst (λ (disk : _). ForSome (g.D.Watched.told disk) (Keeps h)) (sym c.view.ensures.disk) kept,
     )

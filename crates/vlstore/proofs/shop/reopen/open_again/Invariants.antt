@@ -1,0 +1,10 @@
+use Rattle.vlstore.specs.Reopening.{BeginsAgain}
+use Rattle.vlstore.specs.Standing.{NeverFails, parts}
+use Rattle.vlstore.proofs.shop.reopen.open_again.Given as goal
+
+abbrev pub ghosts-store_of : goal.ghosts-store_of
+ghosts-store_of g a = record {
+  suits = BeginsAgain g.D.Held.HeldFile.bytes
+      (NeverFails g.D.Watched.faults g.D.Reader.Reader.faults g.D.Writer.Writer.faults) (g.D.Watched.told a.before.now.value)
+      (parts (g.D.Watched.told a.engine.disk) a.engine.core a.engine.merging a.engine.collecting a.engine.removing);
+}
