@@ -8,8 +8,10 @@ pub mod EmptyDisk
 pub mod Faults
 pub mod First
 pub mod Installing
+pub mod KeyLengths
 pub mod Lasting
 pub mod Leading
+pub mod Leasing
 pub mod Legal
 pub mod Lending
 pub mod Making
@@ -20,6 +22,8 @@ pub mod PassLaws
 pub mod Picking
 pub mod Planning
 pub mod Sessions
+pub mod ShopKept
+pub mod ShopPicks
 pub mod ShopReads
 pub mod ShopStores
 pub mod Shopping

@@ -1,9 +1,12 @@
+pub mod Closing
 pub mod Entries
 pub mod Handing
 pub mod Knowing
 pub mod Lists
 pub mod Merges
 pub mod Merging
+pub mod Reopening
+pub mod Sequences
 pub mod Shops
 pub mod Standing
 pub mod Stores

@@ -21,6 +21,7 @@ mod laws;
 mod locked;
 mod mark;
 mod note;
+mod sequence;
 mod session;
 mod shop;
 mod silent;
@@ -35,6 +36,7 @@ pub use laws::{
 pub use locked::{Locked, Origin};
 pub use mark::{Mark, Starts};
 pub use note::Note;
+pub use sequence::Sequence;
 pub use session::Session;
 pub use shop::{SureEngine, SureSession, SureStore};
 pub use silent::Silent;
@@ -50,8 +52,9 @@ pub use vl_engine::{
     OpenError, OpenFail, PickFail, ReadFail, ReadFault, Rows, SetFail, StepFail, SweepFail, Txn,
     View,
 };
-pub use vl_engine_model::SegmentStat;
+pub use vl_engine_model::{FileName, SegmentStat};
 pub use vl_folder::{FolderDisk, FolderError};
 pub use vl_model::{Bytes, Counter, Key, MAX_KEY_BYTES, MAX_ROOM, MAX_VALUE_BYTES, Value, Way};
+pub use vl_sequence::{NewFail, SeqFail};
 pub use vl_table::BlockReader;
 pub use vl_version::Base;
