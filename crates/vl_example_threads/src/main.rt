@@ -1,15 +1,18 @@
 //! Accounts in a store that several threads use: tellers transfer money, a keeper writes tables and merges them meanwhile, and an
-//! auditor adds up what there is. The program is given a folder, and prints what came of it.
+//! auditor adds up what there is. The program is given a folder, and prints what came of it. Behind the folder's name it takes the
+//! word `ids`: then threads give numbers instead, each once, whatever runs of the program were stopped before.
 #![tactic(auto)]
 
 mod accounts;
 mod auditor;
+mod ids;
 mod keeper;
 mod refusals;
 mod teller;
 
 use crate::accounts::{fill, total};
 use crate::auditor::audit;
+use crate::ids::give_ids;
 use crate::keeper::keep;
 use crate::refusals::not_opened;
 use crate::teller::work;
@@ -33,10 +36,14 @@ enum Role {
 
 fn main(rt: HostRuntime) -> Result<()> {
     let alloc = rt.alloc();
-    let Some(folder) = env::args(&rt)?.nth(1) else {
-        bail!("usage: vl_example_threads DIR");
+    let mut words = env::args(&rt)?;
+    let (Some(folder), mode) = (words.nth(1), words.next()) else {
+        bail!("usage: vl_example_threads DIR [ids]");
     };
     let disk = FolderDisk::new(&rt, alloc, folder);
+    if mode.is_some_and(|word| word.as_str() == "ids") {
+        return give_ids(&rt, alloc, disk);
+    }
     for line in &serve(&rt, alloc, disk)? {
         println!(rt; "{line}")?;
     }

@@ -3,7 +3,10 @@
 use crate::keeper::make_room;
 use anyhow::{Error, Result, anyhow};
 use std::sync::Wait;
-use vlstore::{Cached, CommitFail, MergeFail, OpenError, Session, Silent, StepFail, SweepFail};
+use vlstore::{
+    Cached, CommitFail, MergeFail, OpenError, SeqFail, Sequence, Session, Silent, StepFail,
+    SweepFail,
+};
 
 /// Why the store wasn't opened, and what may be done.
 pub fn not_opened(why: OpenError) -> Error {
@@ -42,6 +45,34 @@ pub fn go_on<D: Silent, R: Wait>(
             session.forget(rt, txn);
             Err(anyhow!("no memory: try again"))
         }
+    }
+}
+
+/// Does what a refusal of a number asks for, so that it can be asked for again; or says why it can't.
+pub fn go_on_giving<D: Silent, R: Wait>(
+    rt: &R,
+    ids: &mut Sequence<D>,
+    fail: SeqFail,
+) -> Result<()> {
+    match fail {
+        SeqFail::Raced { .. } => Ok(()),
+        SeqFail::Full { .. } => match ids.rotate(rt) {
+            Ok(_) => Ok(()),
+            Err(fail) => Err(not_done(fail)),
+        },
+        SeqFail::TooMany => Err(anyhow!("1,024 transactions and views live: end some")),
+        SeqFail::Spent => Err(anyhow!("no number is left: take another key")),
+        SeqFail::Malformed { len } => Err(anyhow!(
+            "the key has {len} bytes, which no sequence wrote: take another key"
+        )),
+        SeqFail::Exhausted(counter) => Err(anyhow!("no number is left: {counter:?}")),
+        SeqFail::Halted { .. } | SeqFail::Disk { .. } => {
+            Err(anyhow!("the disk failed: open again"))
+        }
+        SeqFail::Damaged { place, .. } => {
+            Err(anyhow!("a file is damaged at {place}: restore a backup"))
+        }
+        SeqFail::NoMemory => Err(anyhow!("no memory: try again")),
     }
 }
 
