@@ -20,6 +20,10 @@ abbrev pub drive_app : App
 drive_app = with_rule (with_rule (with_rule (new_app (codes "drive")) (required (codes "CLIENTS"))) (required (codes "TXNS")))
     (required (codes "SEED"))
 
+abbrev pub ids_app : App
+ids_app = with_rule (with_rule (with_rule (new_app (codes "ids")) (required (codes "CLIENTS"))) (required (codes "COUNT")))
+    (required (codes "LEASE"))
+
 replay_taken : (name : Text) (b : ℕ) (bytes : List ℕ) → (b == 45) ≡ false → takes replay_app (name ∷ (b ∷ bytes) ∷ []) ≡ true
 unfolding clap_on_literals
 replay_taken name b bytes other = simp other refl
@@ -77,6 +81,22 @@ module _ (name : Text) (a : ℕ) (more : List ℕ) (b : ℕ) (rest : List ℕ) (
   drive_seed : first_of (codes "SEED") (matches_of drive_app three_words) ≡ Some (d ∷ last)
   unfolding clap_on_literals
   drive_seed = simp (one, two, three) refl
+
+  ids_taken : takes ids_app three_words ≡ true
+  unfolding clap_on_literals
+  ids_taken = simp (one, two, three) refl
+
+  ids_clients : first_of (codes "CLIENTS") (matches_of ids_app three_words) ≡ Some (a ∷ more)
+  unfolding clap_on_literals
+  ids_clients = simp (one, two, three) refl
+
+  ids_count : first_of (codes "COUNT") (matches_of ids_app three_words) ≡ Some (b ∷ rest)
+  unfolding clap_on_literals
+  ids_count = simp (one, two, three) refl
+
+  ids_lease : first_of (codes "LEASE") (matches_of ids_app three_words) ≡ Some (d ∷ last)
+  unfolding clap_on_literals
+  ids_lease = simp (one, two, three) refl
 
 no_option : (b : ℕ) → not (b == 45) ≡ true → (b == 45) ≡ false
 no_option b other = of (b == 45) other
@@ -155,4 +175,30 @@ drive_takes words plain = subst (λ (ws : List Text). (takes drive_app ws ≡ tr
           drive_clients name a more b rest d last p q r,
           drive_turns name a more b rest d last p q r,
           drive_seed name a more b rest d last p q r,
+        )
+
+pub ids_takes : (words : List Text) → HasPlainTriple words → (takes ids_app words ≡ true)
+    × Finds ids_app (codes "CLIENTS") (word_at 1 words) words × Finds ids_app (codes "COUNT") (word_at 2 words) words
+    × Finds ids_app (codes "LEASE") (word_at 3 words) words
+ids_takes words plain = subst (λ (ws : List Text). (takes ids_app ws ≡ true)
+    × Finds ids_app (codes "CLIENTS") (word_at 1 ws) ws × Finds ids_app (codes "COUNT") (word_at 2 ws) ws
+    × Finds ids_app (codes "LEASE") (word_at 3 ws) ws)
+    (sym plain.are) (of plain.name plain.first plain.second plain.third plain.first_plain plain.second_plain plain.third_plain)
+  where
+    of : (name first second third : Text) → is_plain_word first ≡ true → is_plain_word second ≡ true → is_plain_word third ≡ true
+        → (takes ids_app (name ∷ first ∷ second ∷ third ∷ []) ≡ true)
+        × Finds ids_app (codes "CLIENTS") first (name ∷ first ∷ second ∷ third ∷ [])
+        × Finds ids_app (codes "COUNT") second (name ∷ first ∷ second ∷ third ∷ [])
+        × Finds ids_app (codes "LEASE") third (name ∷ first ∷ second ∷ third ∷ [])
+    of name [] second third none two three = absurd (cc)
+    of name (a ∷ more) [] third one none three = absurd (cc)
+    of name (a ∷ more) (b ∷ rest) [] one two none = absurd (cc)
+    of name (a ∷ more) (b ∷ rest) (d ∷ last) one two three =
+        let p = no_option a one in
+        let q = no_option b two in
+        let r = no_option d three in (
+          ids_taken name a more b rest d last p q r,
+          ids_clients name a more b rest d last p q r,
+          ids_count name a more b rest d last p q r,
+          ids_lease name a more b rest d last p q r,
         )

@@ -1,4 +1,4 @@
--- What is printed of a store's contents, and of clients over a store.
+-- What is printed of a store's contents, of clients over a store, and of numbers that they were given.
 use Rattle.std.specs.Prelude.{ℕ, List, [], ◌∷◌, ◌++◌, codes, length}
 use Rattle.std.specs.FinMap.{entries}
 use Rattle.std.specs.Fmt.{decimal}
@@ -28,3 +28,9 @@ abbrev pub driven_text : (commits conflicts total : ℕ) → List ℕ
 driven_text commits conflicts total =
     codes "commits " ++ decimal commits ++ (10 ∷ []) ++ codes "conflicts " ++ decimal conflicts ++ (10 ∷ [])
     ++ codes "total " ++ decimal total ++ (10 ∷ [])
+
+-- what clients were given over a store: a line for the numbers, one for their leases, and one for the least number that isn't leased
+abbrev pub counted_text : (given leases next : ℕ) → List ℕ
+counted_text given leases next =
+    codes "given " ++ decimal given ++ (10 ∷ []) ++ codes "leases " ++ decimal leases ++ (10 ∷ [])
+    ++ codes "next " ++ decimal next ++ (10 ∷ [])

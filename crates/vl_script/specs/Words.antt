@@ -5,7 +5,7 @@ use Rattle.vl_mem.specs.declared.outcome.Outcome.{Outcome}
 use Rattle.vl_mem.specs.declared.outcome.Outcome.TheVariants.{Lost, Kept, Halved}
 use Rattle.vl_script.specs.Numbers.{number_of}
 use Rattle.vl_script.specs.declared.words.Command.{Command}
-use Rattle.vl_script.specs.declared.words.Command.TheVariants.{Bench, Drive, Replay, Trial}
+use Rattle.vl_script.specs.declared.words.Command.TheVariants.{Bench, Drive, Ids, Replay, Trial}
 
 -- a word that is neither empty nor an option
 abbrev pub is_plain_word : List ℕ → Bool
@@ -51,6 +51,17 @@ abbrev pub drive_of : Option ℕ → Option ℕ → Option ℕ → Option Comman
 drive_of (Some (suc n)) (Some (suc m)) (Some seed) = Some (Drive (suc n) (suc m) seed)
 drive_of clients turns seed = None
 
+abbrev pub most_counts : ℕ
+most_counts = 100000
+
+abbrev pub most_lease : ℕ
+most_lease = 1000
+
+-- there are one client and one number at least, and a lease has one
+abbrev pub ids_of : Option ℕ → Option ℕ → Option ℕ → Option Command
+ids_of (Some (suc n)) (Some (suc m)) (Some (suc k)) = Some (Ids (suc n) (suc m) (suc k))
+ids_of clients count lease = None
+
 -- The words of a command that takes two numbers.
 abbrev pub counts_of : List ℕ → (first second : List ℕ) → Option Command
 counts_of command first second =
@@ -61,10 +72,12 @@ counts_of command first second =
 abbrev pub clients_of : List ℕ → (first second third : List ℕ) → Option Command
 clients_of command first second third =
     if bytes_eq command (codes "drive") then drive_of (number_of most_clients first) (number_of most_turns second) (number_of most_seed third)
-    else None
+    else (if bytes_eq command (codes "ids") then ids_of (number_of most_clients first) (number_of most_counts second) (number_of most_lease third)
+    else None)
 
--- The words `replay` and a folder's name; `trial`, a stop and an outcome; `bench`, a seed and a number of rounds; or `drive`, how
--- many clients, how many turns of each, and a seed. All others aren't plain.
+-- The words `replay` and a folder's name; `trial`, a stop and an outcome; `bench`, a seed and a number of rounds; `drive`, how
+-- many clients, how many turns of each, and a seed; or `ids`, how many clients, how many numbers of each, and how many a lease
+-- has. All others aren't plain.
 abbrev pub command_of : List (List ℕ) → Option Command
 command_of (command ∷ folder ∷ []) = if bytes_eq command (codes "replay") && is_plain_word folder then Some Replay else None
 command_of (command ∷ first ∷ second ∷ []) = counts_of command first second

@@ -27,5 +27,5 @@ pub use numbers::parse_number;
 pub use parse::parse_line;
 pub use print::{NUMBER_ROOM, print_answer, print_bad_line, print_rows};
 pub use summary::{Summary, print_summary};
-pub use text::{contents_text, driven_text};
+pub use text::{contents_text, counted_text, driven_text};
 pub use words::{Command, command_in};

@@ -1,7 +1,7 @@
 ghost use Rattle.std.specs.Prelude.{◌≡◌, ◌++◌, ◌∷◌, [], IfOk, OnOk};
 ghost use Rattle.std.specs.Fmt.{decimal};
 ghost use Rattle.vl_script.specs.Script.{bytes_text};
-ghost use Rattle.vl_script.specs.Text.{contents_text, driven_text, row_text};
+ghost use Rattle.vl_script.specs.Text.{contents_text, counted_text, driven_text, row_text};
 
 use std::alloc::{AllocError, Global};
 use vl_model::{Bytes, Key, Value};
@@ -38,6 +38,23 @@ pub fn driven_text(
     push_count(&mut text, b"commits ", commits)?;
     push_count(&mut text, b"conflicts ", conflicts)?;
     push_count(&mut text, b"total ", total)?;
+    Ok(text)
+}
+
+/// What is printed of numbers given over a store: `given c`, how many there were, `leases l`, how many leases they came from,
+/// and `next n`, the least number that isn't leased in the end.
+pub fn counted_text(
+    alloc: Global,
+    given: u64,
+    leases: u64,
+    next: u64,
+) -> Result<Vec<u8>, AllocError>
+    ensures { IfOk result (λ text. text.items ≡ counted_text given leases next) }
+{
+    let mut text = Vec::new(alloc);
+    push_count(&mut text, b"given ", given)?;
+    push_count(&mut text, b"leases ", leases)?;
+    push_count(&mut text, b"next ", next)?;
     Ok(text)
 }
 

@@ -1,8 +1,8 @@
 ghost use Rattle.std.specs.Prelude.{◌≡◌, ◌≢◌, Some, None, IfErr, IfOk, codes, map, string_bytes};
 ghost use Rattle.clap.specs.Words.{first_value, found_of, kind_of};
 ghost use Rattle.vl_script.specs.Numbers.{number_of};
-ghost use Rattle.vl_script.specs.Words.{bench_of, command_of, drive_of, is_plain_word, outcome_of, trial_of, word_at};
-ghost use Rattle.vl_script.specs.Words.{most_clients, most_rounds, most_seed, most_stop, most_turns};
+ghost use Rattle.vl_script.specs.Words.{bench_of, command_of, drive_of, ids_of, is_plain_word, outcome_of, trial_of, word_at};
+ghost use Rattle.vl_script.specs.Words.{most_clients, most_counts, most_lease, most_rounds, most_seed, most_stop, most_turns};
 ghost use Rattle.vl_script.specs.Words.{HasPlainPair, HasPlainTriple, HasPlainWord};
 
 use crate::numbers::parse_number;
@@ -22,6 +22,11 @@ const MAX_CLIENTS: u64 = 16;
 
 const MAX_TURNS: u64 = 100_000;
 
+/// The most numbers that each client takes, and the most of one lease.
+const MAX_COUNTS: u64 = 100_000;
+
+const MAX_LEASE: u64 = 1_000;
+
 /// What plain words ask for.
 #[derive(Clone, Copy)]
 pub enum Command {
@@ -33,6 +38,8 @@ pub enum Command {
     Bench(u64, u32),
     /// So many clients take so many turns each over an empty disk, as a seed says, each in a thread of its own.
     Drive(u32, u32, u64),
+    /// So many clients take so many numbers each over an empty disk, from leases of so many, each in a thread of its own.
+    Ids(u32, u32, u32),
 }
 
 /// What the words ask for; none where they aren't plain. Clap reads plain words alone, and refuses them for want of memory alone.
@@ -45,6 +52,7 @@ pub fn command_in(alloc: Global, words: &[String]) -> Result<Option<Command>, Al
         Some(Command::Trial(_, _)) => trial_in(alloc, words),
         Some(Command::Bench(_, _)) => bench_in(alloc, words),
         Some(Command::Drive(_, _, _)) => drive_in(alloc, words),
+        Some(Command::Ids(_, _, _)) => ids_in(alloc, words),
         None => Ok(None),
     }
 }
@@ -66,6 +74,9 @@ fn spelled(words: &[String]) -> Option<Command>
         }
         [command, clients, turns, seed] if command.as_bytes() == b"drive".as_slice() => {
             drive_of(clients.as_bytes(), turns.as_bytes(), seed.as_bytes())
+        }
+        [command, clients, count, lease] if command.as_bytes() == b"ids".as_slice() => {
+            ids_of(clients.as_bytes(), count.as_bytes(), lease.as_bytes())
         }
         _ => None,
     }
@@ -101,6 +112,19 @@ fn drive_of(clients: &[u8], turns: &[u8], seed: &[u8]) -> Option<Command>
         return None;
     }
     Some(Command::Drive(clients as u32, turns as u32, seed))
+}
+
+// Clients that take numbers, where the three words spell numbers in their ranges.
+fn ids_of(clients: &[u8], count: &[u8], lease: &[u8]) -> Option<Command>
+    ensures { result ≡ ids_of (number_of most_clients clients.now) (number_of most_counts count.now) (number_of most_lease lease.now) }
+{
+    let clients = parse_number(clients, MAX_CLIENTS)?;
+    let count = parse_number(count, MAX_COUNTS)?;
+    let lease = parse_number(lease, MAX_LEASE)?;
+    if clients == 0 || count == 0 || lease == 0 {
+        return None;
+    }
+    Some(Command::Ids(clients as u32, count as u32, lease as u32))
 }
 
 /// Whether a word isn't empty and doesn't begin with `-`.
@@ -192,6 +216,27 @@ fn drive_in(alloc: Global, words: &[String]) -> Result<Option<Command>, AllocErr
     Ok(drive_of(clients.as_bytes(), turns.as_bytes(), seed.as_bytes()))
 }
 
+// Reads the words of clients that take numbers.
+fn ids_in(alloc: Global, words: &[String]) -> Result<Option<Command>, AllocError>
+    requires plain { HasPlainTriple (map string_bytes words.now) }
+    ensures command { IfOk result (λ command. command ≡ ids_of (number_of most_clients (word_at 1 (map string_bytes words.now)))
+        (number_of most_counts (word_at 2 (map string_bytes words.now))) (number_of most_lease (word_at 3 (map string_bytes words.now)))) }
+{
+    let Ok(matches) = ids_matches(alloc, words) else {
+        return Err(AllocError);
+    };
+    let Some(clients) = matches.get_str("CLIENTS") else {
+        return Ok(None);
+    };
+    let Some(count) = matches.get_str("COUNT") else {
+        return Ok(None);
+    };
+    let Some(lease) = matches.get_str("LEASE") else {
+        return Ok(None);
+    };
+    Ok(ids_of(clients.as_bytes(), count.as_bytes(), lease.as_bytes()))
+}
+
 // The word behind the command's name is the folder. Clap takes the name for the program's.
 fn replay_matches<'a>(alloc: Global, words: &'a [String]) -> Result<ArgMatches<'a>, clap::Error>
     requires plain { HasPlainWord (map string_bytes words.now) }
@@ -244,5 +289,23 @@ fn drive_matches<'a>(alloc: Global, words: &'a [String]) -> Result<ArgMatches<'a
         .arg(clients)?
         .arg(turns)?
         .arg(seed)?;
+    command.try_get_matches_from(words)
+}
+
+// The words behind the command's name are how many clients there are, how many numbers each takes, and how many a lease has.
+fn ids_matches<'a>(alloc: Global, words: &'a [String]) -> Result<ArgMatches<'a>, clap::Error>
+    requires plain { HasPlainTriple (map string_bytes words.now) }
+    ensures clients { IfOk result (λ m. first_value (found_of m) (codes "CLIENTS") ≡ Some (word_at 1 (map string_bytes words.now))) }
+    ensures count { IfOk result (λ m. first_value (found_of m) (codes "COUNT") ≡ Some (word_at 2 (map string_bytes words.now))) }
+    ensures lease { IfOk result (λ m. first_value (found_of m) (codes "LEASE") ≡ Some (word_at 3 (map string_bytes words.now))) }
+    ensures refused { IfErr result (λ e. kind_of e ≡ ErrorKind.OutOfMemory) }
+{
+    let clients = Arg::new(alloc, "CLIENTS").required(true);
+    let count = Arg::new(alloc, "COUNT").required(true);
+    let lease = Arg::new(alloc, "LEASE").required(true);
+    let command = clap::Command::new(alloc, "ids")
+        .arg(clients)?
+        .arg(count)?
+        .arg(lease)?;
     command.try_get_matches_from(words)
 }

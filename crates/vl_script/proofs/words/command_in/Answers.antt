@@ -1,6 +1,6 @@
 use Rattle.std.proofs.Common.{◌∙◌, ap, map, string_bytes, sym, Some}
 use Rattle.std.proofs.lemmas.Result.{IfOk-weaker}
-use Rattle.vl_script.proofs.Plain.{is_bench, is_drive, is_trial}
+use Rattle.vl_script.proofs.Plain.{is_bench, is_drive, is_ids, is_trial}
 use Rattle.vl_script.proofs.words.command_in.Goals as goal
 
 pub trial_in-requires : goal.trial_in-requires
@@ -27,6 +27,14 @@ drive_in-requires c =
           (sym c.spelled.ensures ∙ arm.is ∙ ap Some arm.field-0-is)).plain;
     }
 
+pub ids_in-requires : goal.ids_in-requires
+ids_in-requires c =
+    let arm = c.in-Some-Ids in
+    record {
+      plain = (is_ids (map string_bytes c.args.words.now) arm.field-0-0 arm.field-0-1 arm.field-0-2
+          (sym c.spelled.ensures ∙ arm.is ∙ ap Some arm.field-0-is)).plain;
+    }
+
 pub returns-in-Some-Trial-clause-command : goal.returns-in-Some-Trial-clause-command
 returns-in-Some-Trial-clause-command c =
     let arm = c.in-Some-Trial in
@@ -47,3 +55,10 @@ returns-in-Some-Drive-clause-command c =
     let is = is_drive (map string_bytes c.args.words.now) arm.field-0-0 arm.field-0-1 arm.field-0-2
     (sym c.spelled.ensures ∙ arm.is ∙ ap Some arm.field-0-is) in
     IfOk-weaker c.drive_in.result _ _ (λ command same. same ∙ sym is.of_words) c.drive_in.ensures.command
+
+pub returns-in-Some-Ids-clause-command : goal.returns-in-Some-Ids-clause-command
+returns-in-Some-Ids-clause-command c =
+    let arm = c.in-Some-Ids in
+    let is = is_ids (map string_bytes c.args.words.now) arm.field-0-0 arm.field-0-1 arm.field-0-2
+    (sym c.spelled.ensures ∙ arm.is ∙ ap Some arm.field-0-is) in
+    IfOk-weaker c.ids_in.result _ _ (λ command same. same ∙ sym is.of_words) c.ids_in.ensures.command
