@@ -36,7 +36,7 @@ use Rattle.vl_script_model.specs.Endings.{no_memory_line}
 use Rattle.vl_script_model.specs.Failing.{Beside, ByReader, ByWriter, ReaderFailed, beside}
 use Rattle.vl_script_model.specs.Halts.{HaltsByDamage, HaltsByDisk, HaltsByReader}
 use Rattle.vl_script_model.specs.Opening.{IsRefused}
-use Rattle.vl_script_model.specs.Sequential.{IsTold, State, answer_to, as_told, state_after, stat_told, told_segment, without_lengths}
+use Rattle.vl_script_model.specs.Sequential.{IsPrinted, State, answer_to, as_printed, state_after, stat_of_line, segment_line, without_lengths}
 use Rattle.vl_script_model.specs.Start.{StartsIn}
 use Rattle.vl_script_model.specs.Steps.{Finishes}
 use Rattle.vl_script_model.specs.Trial.{begun}
@@ -60,11 +60,11 @@ rows_many : (rows : List Row) → length rows ≡ length (rows_told rows)
 rows_many [] = refl
 rows_many (row ∷ rows) = ap suc (rows_many rows)
 
-segments_alike : (segments : List SegmentLine) → segments ≡ map told_segment (map stat_told segments)
+segments_alike : (segments : List SegmentLine) → segments ≡ map segment_line (map stat_of_line segments)
 segments_alike [] = refl
 segments_alike (s ∷ segments) = ap (λ (rest : List SegmentLine). s ∷ rest) (segments_alike segments)
 
-told_counts : (commits : Bool) (answer : Answer) (s : Summary) → script.counted commits answer s ≡ counted commits (as_told answer) s
+told_counts : (commits : Bool) (answer : Answer) (s : Summary) → script.counted commits answer s ≡ counted commits (as_printed answer) s
 told_counts commits answers.Done s = refl
 told_counts commits (answers.Number n) s = refl
 told_counts commits (answers.Found value) s = refl
@@ -100,7 +100,7 @@ lengths_uncounted commits (store.Full length frame) s = refl
 lengths_uncounted commits answer s = refl
 
 -- An answer that is told counts as the store's.
-pub is_told_counts : (commits : Bool) (told : Answer) (answer : store.Answer) (s : Summary) → IsTold told answer
+pub is_told_counts : (commits : Bool) (told : Answer) (answer : store.Answer) (s : Summary) → IsPrinted told answer
     → script.counted commits told s ≡ counted commits answer s
 is_told_counts commits told answer s is =
     told_counts commits told s ∙ ap (λ (a : store.Answer). counted commits a s) is ∙ lengths_uncounted commits answer s
@@ -273,7 +273,7 @@ none_left (x ∷ lines) is = absurd (some_none x is)
 
 -- The answer to a line was counted.
 pub counts_one : (t : State) (lines rest : List Line) (line : Line) (commits : Bool) (told : Answer) (s new whole : Summary)
-    → lines ≡ line ∷ rest → commits ≡ script.is_commit line → IsTold told (answer_to t line) → new ≡ script.counted commits told s
+    → lines ≡ line ∷ rest → commits ≡ script.is_commit line → IsPrinted told (answer_to t line) → new ≡ script.counted commits told s
     → whole ≡ summed s (exchanges_of t lines) → whole ≡ summed new (exchanges_of (state_after t line) rest)
 counts_one t lines rest line commits told s new whole parts same is counts all =
     all ∙ ap (λ (xs : List Line). summed s (exchanges_of t xs)) parts

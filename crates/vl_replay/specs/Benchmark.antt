@@ -8,7 +8,7 @@ use Rattle.vl_script.specs.declared.line.Line.{Line}
 use Rattle.vl_script.specs.declared.summary.Summary.{Summary}
 use Rattle.vl_script_model.specs.Endings.{no_memory_line, status_of}
 use Rattle.vl_script_model.specs.Exchanges.{Exchange, exchanged}
-use Rattle.vl_script_model.specs.Sequential.{State, state_after, told_segment}
+use Rattle.vl_script_model.specs.Sequential.{State, state_after, segment_line}
 use Rattle.vl_script_model.specs.Steps.{Finishes}
 use Rattle.vl_script_model.specs.Trial.{begun}
 use Rattle.vl_script_model.specs.declared.ending.Ending.{Ending}
@@ -25,8 +25,8 @@ counted commits (store.Number number) s = if commits then record s { commits = p
 counted commits (store.Rows rows) s = record s { rows = plus s.rows (length rows) }
 counted commits (store.Moved count) s = record s { moved = plus s.moved count }
 counted commits (store.Segments stats) s = record s {
-  bytes = plus s.bytes (bytes_in (map told_segment stats));
-  live = plus s.live (live_in (map told_segment stats));
+  bytes = plus s.bytes (bytes_in (map segment_line stats));
+  live = plus s.live (live_in (map segment_line stats));
 }
 counted commits answer s = s
 

@@ -13,7 +13,7 @@ pub struct Ended<D> {
 
 /// The last line of a run whose words aren't plain.
 pub const USAGE: &[u8] =
-    b"usage: vlstore replay DIR, trial STOP OUTCOME, bench SEED COUNT or drive CLIENTS TXNS SEED\n";
+    b"usage: vlstore replay DIR, trial STOP OUTCOME, bench SEED COUNT, drive CLIENTS TXNS SEED or ids CLIENTS COUNT LEASE\n";
 
 pub const DISK_FAULT: &[u8] = b"disk fault\n";
 

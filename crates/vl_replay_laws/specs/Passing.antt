@@ -90,12 +90,12 @@ TakesPass name (Some passing) new (Some pass) = (new ≡ None) × (passing.name 
 
 -- ---- what its lines are told
 
-abbrev pub told_pick : {V H : Type 0} → Result (ThePass V H) PickFail → Result Answer Halt
-told_pick (Ok pass) = Ok (answers.Number pass.log.number)
-told_pick (Err unpicked.InvalidRequest) = Ok answers.Invalid
-told_pick (Err (unpicked.Rejected segment)) = Ok (answers.Rejected segment)
-told_pick (Err unpicked.NoRewrite) = Ok answers.NoRewrite
-told_pick (Err unpicked.NoMemory) = Err halts.NoMemory
+abbrev pub pick_answer : {V H : Type 0} → Result (ThePass V H) PickFail → Result Answer Halt
+pick_answer (Ok pass) = Ok (answers.Number pass.log.number)
+pick_answer (Err unpicked.InvalidRequest) = Ok answers.Invalid
+pick_answer (Err (unpicked.Rejected segment)) = Ok (answers.Rejected segment)
+pick_answer (Err unpicked.NoRewrite) = Ok answers.NoRewrite
+pick_answer (Err unpicked.NoMemory) = Err halts.NoMemory
 
 -- whose reading failed
 abbrev pub halt_at : ReadFault → Halt
@@ -104,12 +104,12 @@ halt_at (faults.Disk name) = halts.Read name
 halt_at (faults.Damaged name place) = halts.Damaged name place
 
 -- An engine is halted only behind a fault, at which its replayer halts too.
-abbrev pub told_move : Result ℕ MoveFail → Result Answer Halt
-told_move (Ok count) = Ok (answers.Moved count)
-told_move (Err (unmoved.Halted name)) = Err (halts.Read name)
-told_move (Err (unmoved.Exhausted batch counter)) = Ok (answers.Exhausted counter)
-told_move (Err (unmoved.Full batch length frame)) = Ok answers.Full
-told_move (Err (unmoved.NoMemory batch)) = Err halts.NoMemory
-told_move (Err (unmoved.Disk name)) = Err (halts.Disk name)
-told_move (Err (unmoved.Read name)) = Err (halts.Read name)
-told_move (Err (unmoved.Damaged batch name place)) = Err (halts.Damaged name place)
+abbrev pub move_answer : Result ℕ MoveFail → Result Answer Halt
+move_answer (Ok count) = Ok (answers.Moved count)
+move_answer (Err (unmoved.Halted name)) = Err (halts.Read name)
+move_answer (Err (unmoved.Exhausted batch counter)) = Ok (answers.Exhausted counter)
+move_answer (Err (unmoved.Full batch length frame)) = Ok answers.Full
+move_answer (Err (unmoved.NoMemory batch)) = Err halts.NoMemory
+move_answer (Err (unmoved.Disk name)) = Err (halts.Disk name)
+move_answer (Err (unmoved.Read name)) = Err (halts.Read name)
+move_answer (Err (unmoved.Damaged batch name place)) = Err (halts.Damaged name place)

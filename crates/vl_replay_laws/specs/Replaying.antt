@@ -21,7 +21,7 @@ use Rattle.vl_engine_model.specs.declared.job.Job.{Job}
 use Rattle.vl_engine_model.specs.declared.job.OpenJob.{OpenJob}
 use Rattle.vl_engine_model.specs.declared.layout.Layout.{Layout}
 use Rattle.vl_version.specs.declared.base.Base.{Base}
-use Rattle.vl_script_model.specs.Sequential.{IsTold, State, files_behind, history_of}
+use Rattle.vl_script_model.specs.Sequential.{IsPrinted, State, files_behind, history_of}
 use Rattle.vl_replay_laws.specs.Standing.{Stand}
 use Rattle.vl_script_model.specs.declared.fails.Halt.{Halt}
 use Rattle.vl_script_model.specs.declared.fails.Halt.TheVariants.{NoMemory}
@@ -102,7 +102,7 @@ state_by_step s x = record (state_by s x) { files = files_behind x.answer s.file
 abbrev pub MakesStep : {H R : Type 0} → (H → Option (List ℕ)) → Option DiskState → Core H → List (Open H R) → State → Step
     → Result Answer Halt → Type 0
 MakesStep bytes told core opens s x result =
-    IfOk result (λ answer. IsTold answer x.answer × StandsIn bytes told core opens (state_by s x))
+    IfOk result (λ answer. IsPrinted answer x.answer × StandsIn bytes told core opens (state_by s x))
 
 -- it fails by want of memory alone
 abbrev pub OnlyNoMemory : {T : Type 0} → Result T Halt → Type 0

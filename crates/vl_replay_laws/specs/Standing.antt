@@ -123,13 +123,13 @@ pub record IsTaken {H R : Type 0} (old new : List (Open H R)) (name : Name) (thi
 -- ---- what writes are told
 
 -- a refusal of a write; memory may run out instead
-abbrev pub told_write : Result ⊤ SetFail → Result Answer Halt
-told_write (Ok done) = Ok answers.Done
-told_write (Err EmptyKey) = Ok answers.Invalid
-told_write (Err KeyTooLong) = Ok answers.Invalid
-told_write (Err ValueTooLong) = Ok answers.Invalid
-told_write (Err TooBig) = Ok answers.TooBig
-told_write (Err NoMemory) = Err halts.NoMemory
+abbrev pub write_answer : Result ⊤ SetFail → Result Answer Halt
+write_answer (Ok done) = Ok answers.Done
+write_answer (Err EmptyKey) = Ok answers.Invalid
+write_answer (Err KeyTooLong) = Ok answers.Invalid
+write_answer (Err ValueTooLong) = Ok answers.Invalid
+write_answer (Err TooBig) = Ok answers.TooBig
+write_answer (Err NoMemory) = Err halts.NoMemory
 
 -- what a line writes to a key: a value with its tag, or that it is deleted
 abbrev pub change_of : Option (List ℕ × ℕ) → Change
@@ -143,55 +143,55 @@ abbrev pub tell_of : Bool → Option Stored → store_lines.Answer
 tell_of true = answer_with_tag
 tell_of false = answer_of
 
-abbrev pub told_value : Bool → Option Stored → Answer
-told_value with_tag None = answers.NoValue
-told_value true (Some value) = answers.FoundTagged value
-told_value false (Some value) = answers.Found value
+abbrev pub value_answer : Bool → Option Stored → Answer
+value_answer with_tag None = answers.NoValue
+value_answer true (Some value) = answers.FoundTagged value
+value_answer false (Some value) = answers.Found value
 
 -- what was read, or why nothing was
-abbrev pub told_by : {V : Type 0} → (V → Answer) → Result V ReadFail → Result Answer Halt
-told_by tell (Ok value) = Ok (tell value)
-told_by tell (Err unread.EmptyKey) = Ok answers.Invalid
-told_by tell (Err unread.KeyTooLong) = Ok answers.Invalid
-told_by tell (Err unread.NoMemory) = Err halts.NoMemory
-told_by tell (Err (unread.Disk name)) = Err (halts.Read name)
-told_by tell (Err (unread.Damaged name place)) = Err (halts.Damaged name place)
+abbrev pub read_answer : {V : Type 0} → (V → Answer) → Result V ReadFail → Result Answer Halt
+read_answer tell (Ok value) = Ok (tell value)
+read_answer tell (Err unread.EmptyKey) = Ok answers.Invalid
+read_answer tell (Err unread.KeyTooLong) = Ok answers.Invalid
+read_answer tell (Err unread.NoMemory) = Err halts.NoMemory
+read_answer tell (Err (unread.Disk name)) = Err (halts.Read name)
+read_answer tell (Err (unread.Damaged name place)) = Err (halts.Damaged name place)
 
 -- what was read at an older number, or why nothing was
-abbrev pub told_past : Result (Option Stored) AtFail → Result Answer Halt
-told_past (Ok value) = Ok (told_value false value)
-told_past (Err gone.EmptyKey) = Ok answers.Invalid
-told_past (Err gone.KeyTooLong) = Ok answers.Invalid
-told_past (Err (gone.Ahead number)) = Ok answers.Invalid
-told_past (Err (gone.Dropped least)) = Ok (answers.Dropped least)
-told_past (Err gone.NoMemory) = Err halts.NoMemory
-told_past (Err (gone.Disk name)) = Err (halts.Read name)
-told_past (Err (gone.Damaged name place)) = Err (halts.Damaged name place)
+abbrev pub past_answer : Result (Option Stored) AtFail → Result Answer Halt
+past_answer (Ok value) = Ok (value_answer false value)
+past_answer (Err gone.EmptyKey) = Ok answers.Invalid
+past_answer (Err gone.KeyTooLong) = Ok answers.Invalid
+past_answer (Err (gone.Ahead number)) = Ok answers.Invalid
+past_answer (Err (gone.Dropped least)) = Ok (answers.Dropped least)
+past_answer (Err gone.NoMemory) = Err halts.NoMemory
+past_answer (Err (gone.Disk name)) = Err (halts.Read name)
+past_answer (Err (gone.Damaged name place)) = Err (halts.Damaged name place)
 
 -- ---- what steps on files are told
 
 -- The number of the log that was sealed, or of the table that was made. An engine is halted only behind a fault, at which its
 -- replayer halts too.
-abbrev pub told_step : Result (Option ℕ) StepFail → Result Answer Halt
-told_step (Ok (Some number)) = Ok (answers.Number number)
-told_step (Ok None) = Ok answers.Idle
-told_step (Err (undone.Exhausted counter)) = Ok (answers.Exhausted counter)
-told_step (Err undone.NoMemory) = Err halts.NoMemory
-told_step (Err (undone.Disk name)) = Err (halts.Disk name)
-told_step (Err (undone.Halted name)) = Err (halts.Read name)
+abbrev pub step_answer : Result (Option ℕ) StepFail → Result Answer Halt
+step_answer (Ok (Some number)) = Ok (answers.Number number)
+step_answer (Ok None) = Ok answers.Idle
+step_answer (Err (undone.Exhausted counter)) = Ok (answers.Exhausted counter)
+step_answer (Err undone.NoMemory) = Err halts.NoMemory
+step_answer (Err (undone.Disk name)) = Err (halts.Disk name)
+step_answer (Err (undone.Halted name)) = Err (halts.Read name)
 
 -- ---- what a change of how many versions are kept is told
 
-abbrev pub told_keep : Result ⊤ KeepFail → Result Answer Halt
-told_keep (Ok done) = Ok answers.Done
-told_keep (Err unkept.InvalidRequest) = Ok answers.Invalid
-told_keep (Err unkept.NoMemory) = Err halts.NoMemory
-told_keep (Err (unkept.Disk name)) = Err (halts.Disk name)
-told_keep (Err (unkept.Halted name)) = Err (halts.Read name)
+abbrev pub keep_answer : Result ⊤ KeepFail → Result Answer Halt
+keep_answer (Ok done) = Ok answers.Done
+keep_answer (Err unkept.InvalidRequest) = Ok answers.Invalid
+keep_answer (Err unkept.NoMemory) = Err halts.NoMemory
+keep_answer (Err (unkept.Disk name)) = Err (halts.Disk name)
+keep_answer (Err (unkept.Halted name)) = Err (halts.Read name)
 
 -- ---- what a sweep is told
 
-abbrev pub told_sweep : Result ℕ SweepFail → Result Answer Halt
-told_sweep (Ok count) = Ok (answers.Removed count)
-told_sweep (Err (unswept.Disk name)) = Err (halts.Disk name)
-told_sweep (Err (unswept.Halted name)) = Err (halts.Read name)
+abbrev pub sweep_answer : Result ℕ SweepFail → Result Answer Halt
+sweep_answer (Ok count) = Ok (answers.Removed count)
+sweep_answer (Err (unswept.Disk name)) = Err (halts.Disk name)
+sweep_answer (Err (unswept.Halted name)) = Err (halts.Read name)

@@ -26,7 +26,8 @@ bad_line n = codes "bad line " ++ decimal (line_number n) ++ (10 ∷ [])
 
 abbrev pub usage_line : List ℕ
 usage_line =
-    codes "usage: vlstore replay DIR, trial STOP OUTCOME, bench SEED COUNT or drive CLIENTS TXNS SEED" ++ (10 ∷ [])
+    codes "usage: vlstore replay DIR, trial STOP OUTCOME, bench SEED COUNT, drive CLIENTS TXNS SEED or ids CLIENTS COUNT LEASE"
+    ++ (10 ∷ [])
 
 abbrev pub disk_fault_line : List ℕ
 disk_fault_line = codes "disk fault" ++ (10 ∷ [])

@@ -99,15 +99,15 @@ state_after s line = record {
 -- ---- how an answer is spelled
 
 -- a row is told without its value's tag
-abbrev pub told_row : List ℕ × List ℕ → Row
-told_row row = (row.0, untagged row.1)
+abbrev pub row_line : List ℕ × List ℕ → Row
+row_line row = (row.0, untagged row.1)
 
 -- what is told of a log, as a line has it, and as the store has that
-abbrev pub told_segment : SegmentStat → SegmentLine
-told_segment stat = record { segment = stat.segment; bytes = stat.bytes; live = stat.live }
+abbrev pub segment_line : SegmentStat → SegmentLine
+segment_line stat = record { segment = stat.segment; bytes = stat.bytes; live = stat.live }
 
-abbrev pub stat_told : SegmentLine → SegmentStat
-stat_told line = record { segment = line.segment; bytes = line.bytes; live = line.live }
+abbrev pub stat_of_line : SegmentLine → SegmentStat
+stat_of_line line = record { segment = line.segment; bytes = line.bytes; live = line.live }
 
 -- those of a script's lines; no other comes
 abbrev pub answer_text : store.Answer → List ℕ
@@ -117,7 +117,7 @@ answer_text (store.Value bytes) = text_of (answers.Found (untagged bytes))
 answer_text (store.ValueTagged value) = text_of (answers.FoundTagged value)
 answer_text store.NoValue = text_of answers.NoValue
 answer_text (store.Dropped least) = text_of (answers.Dropped least)
-answer_text (store.Rows rows) = rows_text (map told_row rows)
+answer_text (store.Rows rows) = rows_text (map row_line rows)
 answer_text (store.Taken name) = text_of (answers.Taken name)
 answer_text (store.Unknown name) = text_of (answers.Unknown name)
 answer_text store.ReadOnly = text_of answers.ReadOnly
@@ -136,44 +136,44 @@ answer_text (store.Found count) = text_of (answers.FoundRecords count)
 answer_text store.End = text_of answers.End
 answer_text (store.Moved count) = text_of (answers.Moved count)
 answer_text (store.Removed count) = text_of (answers.Removed count)
-answer_text (store.Segments stats) = segments_text (map told_segment stats)
+answer_text (store.Segments stats) = segments_text (map segment_line stats)
 answer_text (store.Halted file) = []
 
 -- ---- what a script is told
 
 -- an answer of a script, as the store has it; its log's lengths aren't told
-abbrev pub as_told : Answer → store.Answer
-as_told answers.Done = store.Done
-as_told (answers.Number n) = store.Number n
-as_told (answers.Found value) = store.Value value.bytes
-as_told (answers.FoundTagged value) = store.ValueTagged value
-as_told answers.NoValue = store.NoValue
-as_told (answers.Dropped low) = store.Dropped low
-as_told (answers.Rows rows) = store.Rows (rows_told rows.items)
-as_told (answers.Taken name) = store.Taken name
-as_told (answers.Unknown name) = store.Unknown name
-as_told answers.ReadOnly = store.ReadOnly
-as_told answers.Invalid = store.Invalid
-as_told answers.TooBig = store.TooBig
-as_told answers.TooMany = store.TooMany
-as_told answers.Nothing = store.Nothing
-as_told (answers.Conflict key number) = store.Conflict key number
-as_told answers.Full = store.Full 0 0
-as_told (answers.Exhausted counter) = store.Exhausted counter
-as_told answers.Idle = store.Idle
-as_told (answers.Raced key) = store.Raced key
-as_told (answers.Rejected segment) = store.Rejected segment
-as_told answers.NoRewrite = store.NoRewrite
-as_told (answers.FoundRecords count) = store.Found count
-as_told answers.End = store.End
-as_told (answers.Moved count) = store.Moved count
-as_told (answers.Removed count) = store.Removed count
-as_told (answers.Segments segments) = store.Segments (map stat_told segments.items)
+abbrev pub as_printed : Answer → store.Answer
+as_printed answers.Done = store.Done
+as_printed (answers.Number n) = store.Number n
+as_printed (answers.Found value) = store.Value value.bytes
+as_printed (answers.FoundTagged value) = store.ValueTagged value
+as_printed answers.NoValue = store.NoValue
+as_printed (answers.Dropped low) = store.Dropped low
+as_printed (answers.Rows rows) = store.Rows (rows_told rows.items)
+as_printed (answers.Taken name) = store.Taken name
+as_printed (answers.Unknown name) = store.Unknown name
+as_printed answers.ReadOnly = store.ReadOnly
+as_printed answers.Invalid = store.Invalid
+as_printed answers.TooBig = store.TooBig
+as_printed answers.TooMany = store.TooMany
+as_printed answers.Nothing = store.Nothing
+as_printed (answers.Conflict key number) = store.Conflict key number
+as_printed answers.Full = store.Full 0 0
+as_printed (answers.Exhausted counter) = store.Exhausted counter
+as_printed answers.Idle = store.Idle
+as_printed (answers.Raced key) = store.Raced key
+as_printed (answers.Rejected segment) = store.Rejected segment
+as_printed answers.NoRewrite = store.NoRewrite
+as_printed (answers.FoundRecords count) = store.Found count
+as_printed answers.End = store.End
+as_printed (answers.Moved count) = store.Moved count
+as_printed (answers.Removed count) = store.Removed count
+as_printed (answers.Segments segments) = store.Segments (map stat_of_line segments.items)
 
 -- the same but for the lengths
 abbrev pub without_lengths : store.Answer → store.Answer
 without_lengths (store.Full length frame) = store.Full 0 0
 without_lengths answer = answer
 
-abbrev pub IsTold : Answer → store.Answer → Type 0
-IsTold told answer = as_told told ≡ without_lengths answer
+abbrev pub IsPrinted : Answer → store.Answer → Type 0
+IsPrinted told answer = as_printed told ≡ without_lengths answer

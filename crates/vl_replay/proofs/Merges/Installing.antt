@@ -75,7 +75,7 @@ use Rattle.vl_script_model.specs.Failing.{IsTableOf}
 use Rattle.vl_script_model.specs.Halts.{HaltsByDisk, HaltsByRead}
 use Rattle.vl_replay.specs.Handed.{CanHandIn}
 use Rattle.vl_replay_laws.specs.Replaying.{IsWaiting, MakesStep, Merges, StandsIn, TakesPlanned, Waits, state_by}
-use Rattle.vl_script_model.specs.Sequential.{IsTold, State, history_of, state_after, step_to, without_lengths}
+use Rattle.vl_script_model.specs.Sequential.{IsPrinted, State, history_of, state_after, step_to, without_lengths}
 use Rattle.vl_replay_laws.specs.Standing.{Corresponds, Stand, open_in}
 use Rattle.vl_script_model.specs.Stopped.{AreNumberedUpTo, StopsStep, step_failed}
 use Rattle.vl_script_model.specs.Stored.{IsStopped, IsStored}
@@ -452,7 +452,7 @@ module _ {D H R S W : Type 0} (g : Ghosts D) (w : Writers W) (bytes : H → Opti
 
   makes_so : (result : Result (Unit {0}) (InstallFail (Base H R) H W k)) → DidInstall result → (a : InstallAnswer)
       → install_outcome result ≡ Answered a
-      → (InstallFailed result → ⊥) → (told : Answer) → IsTold told (install_told a)
+      → (InstallFailed result → ⊥) → (told : Answer) → IsPrinted told (install_told a)
       → MakesStep bytes (g.told new) after os s (step_to s (lines.Install name)) (Ok told)
   makes_so result did a is fine told tells =
       subst (λ (x : Step). MakesStep bytes (g.told new) after os s x (Ok told)) (sym step_is)

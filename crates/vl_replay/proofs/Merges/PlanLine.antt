@@ -37,7 +37,7 @@ use Rattle.vl_script_model.specs.Durable.{CarriesOut, HoldsState}
 use Rattle.vl_script_model.specs.Halts.{HaltsByDisk}
 use Rattle.vl_replay.specs.Handed.{CanHandIn, MayHandIn}
 use Rattle.vl_replay_laws.specs.Replaying.{MakesStep, Merges, StandsIn, Waits, state_by_plan}
-use Rattle.vl_script_model.specs.Sequential.{IsTold, State, history_of, state_after, step_to}
+use Rattle.vl_script_model.specs.Sequential.{IsPrinted, State, history_of, state_after, step_to}
 use Rattle.vl_replay_laws.specs.Standing.{open_in}
 use Rattle.vl_script_model.specs.Stored.{IsStopped, IsStored}
 use Rattle.vl_script_model.specs.declared.fails.Halt.{Halt}
@@ -79,7 +79,7 @@ same_state choice s name answer is =
 
 module _ {D H R : Type 0} (g : Ghosts D) (watched : IsWatched g) (bytes : H → Option (List ℕ)) (before after : Core H) (old new : D)
     (os : List (Open H R)) (s : State) (stands : StandsIn bytes (g.told old) before os s) (core : after ≡ before) (disk : new ≡ old)
-    (choice : Choice) (name : Name) (told : Answer) (answer : store_lines.Answer) (same : IsTold told answer)
+    (choice : Choice) (name : Name) (told : Answer) (answer : store_lines.Answer) (same : IsPrinted told answer)
     (is : step_to s (line_for choice name) ≡ only answer s.store) where
   still_made : MakesStep bytes (g.told new) after os s (only answer s.store) (Ok told)
   still_made = (

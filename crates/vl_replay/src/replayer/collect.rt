@@ -18,7 +18,7 @@ ghost use Rattle.vl_replay.specs.Handed.{CanHandIn, KeepsLent};
 ghost use Rattle.vl_replay_laws.specs.Passing.{PassesIn, TakesPass, halt_at};
 ghost use Rattle.vl_replay_laws.specs.Replaying.{MakesStep, MergesIn, OnlyNoMemory, state_by};
 ghost use Rattle.vl_replay.specs.Served.{RemovesIn, ServesFor, StandsPassing, StandsWith};
-ghost use Rattle.vl_script_model.specs.Sequential.{State, told_segment};
+ghost use Rattle.vl_script_model.specs.Sequential.{State, segment_line};
 ghost use Rattle.vl_script_model.specs.Stored.{IsStopped, IsStored};
 ghost use Rattle.vl_script_model.specs.declared.fails.Halt.TheVariants as halts;
 
@@ -71,7 +71,7 @@ pub(super) fn stats<D: Disk>(served: &Served<D>) -> Result<Answer, Halt>
 
 // What is printed of each log.
 fn segment_lines(alloc: Global, stats: &[SegmentStat]) -> Result<Vec<SegmentLine>, AllocError>
-    ensures { IfOk result (λ lines. lines.items ≡ map told_segment stats.now) }
+    ensures { IfOk result (λ lines. lines.items ≡ map segment_line stats.now) }
 {
     let mut lines = Vec::new(alloc);
     for stat in stats {

@@ -12,7 +12,7 @@ ghost use Rattle.vl_script_model.specs.Halts.{HaltsByDisk, HaltsByRead};
 ghost use Rattle.vl_replay_laws.specs.Replaying.{MakesStep, state_by};
 ghost use Rattle.vl_replay.specs.Served.{RemovesIn, ServesFor};
 ghost use Rattle.vl_script_model.specs.Sequential.{State, history_of};
-ghost use Rattle.vl_replay_laws.specs.Standing.{told_keep};
+ghost use Rattle.vl_replay_laws.specs.Standing.{keep_answer};
 ghost use Rattle.vl_script_model.specs.Stored.{IsStopped, IsStored};
 ghost use Rattle.vl_script_model.specs.declared.fails.Halt.TheVariants as halts;
 
@@ -48,7 +48,7 @@ impl<D: Disk> Served<D> {
 
 // How a change of how many versions are kept is answered.
 fn keep_answer(kept: Result<(), KeepFail>) -> Result<Answer, Halt>
-    ensures { result ≡ told_keep kept }
+    ensures { result ≡ keep_answer kept }
 {
     match kept {
         Ok(()) => Ok(Answer::Done),

@@ -13,7 +13,7 @@ ghost use Rattle.vl_replay.specs.Handed.{CanHandIn};
 ghost use Rattle.vl_replay_laws.specs.Passing.{PassesIn, TellsUsed, name_made};
 ghost use Rattle.vl_replay_laws.specs.Replaying.{MakesStep, MergesIn};
 ghost use Rattle.vl_replay.specs.Served.{RemovesIn, StandsFor, StandsWith, TakesLines, disk_of};
-ghost use Rattle.vl_script_model.specs.Sequential.{IsTold, State, answer_to, state_after, step_to};
+ghost use Rattle.vl_script_model.specs.Sequential.{IsPrinted, State, answer_to, state_after, step_to};
 ghost use Rattle.vl_replay_laws.specs.Standing.{open_in};
 ghost use Rattle.vl_script_model.specs.Stored.{IsStopped, IsStored};
 ghost use Rattle.vl_script_model.specs.declared.fails.Halt.{Halt as Halts};
@@ -34,7 +34,7 @@ impl<D: Disk> Replayer<D> {
     pub fn line(&mut self, line: Line) -> Result<Answer, Halt>
         requires rows { AsksForRow line }
         ensures answer { (s : State) → StandsFor D.Watched D.Writer.Writer D.Held.bytes self.old s
-            → IfOk result (λ answer. IsTold answer (answer_to s line)) }
+            → IfOk result (λ answer. IsPrinted answer (answer_to s line)) }
         ensures after { (s : State) → StandsFor D.Watched D.Writer.Writer D.Held.bytes self.old s
             → OnOk result (StandsFor D.Watched D.Writer.Writer D.Held.bytes self.new (state_after s line)) }
 

@@ -8,7 +8,7 @@ ghost use Rattle.vl_script_model.specs.Readers.{IsWithoutTables};
 ghost use Rattle.vl_replay_laws.specs.Replaying.{MakesStep, OnlyNoMemory};
 ghost use Rattle.vl_replay.specs.Served.{ServesFor};
 ghost use Rattle.vl_script_model.specs.Sequential.{State};
-ghost use Rattle.vl_replay_laws.specs.Standing.{tell_of, told_by, told_past, told_value};
+ghost use Rattle.vl_replay_laws.specs.Standing.{tell_of, read_answer, past_answer, value_answer};
 ghost use Rattle.vl_script.specs.declared.answer.Answer.TheVariants.{Rows as TheRows};
 
 use crate::replayer::Served;
@@ -95,7 +95,7 @@ impl<D: Disk> Served<D> {
 
 // How a read of a key is answered.
 fn read_answer(read: Result<Option<Value>, ReadFail>, with_tag: bool) -> Result<Answer, Halt>
-    ensures { result ≡ told_by (told_value with_tag) read }
+    ensures { result ≡ read_answer (value_answer with_tag) read }
 {
     match read {
         Ok(None) => Ok(Answer::NoValue),
@@ -113,7 +113,7 @@ fn read_answer(read: Result<Option<Value>, ReadFail>, with_tag: bool) -> Result<
 
 // How a scan is answered.
 fn scan_answer(read: Result<Rows, ReadFail>) -> Result<Answer, Halt>
-    ensures { result ≡ told_by (λ rows. TheRows rows) read }
+    ensures { result ≡ read_answer (λ rows. TheRows rows) read }
 {
     match read {
         Ok(rows) => Ok(Answer::Rows { rows }),
@@ -126,7 +126,7 @@ fn scan_answer(read: Result<Rows, ReadFail>) -> Result<Answer, Halt>
 
 // How a read at an older number is answered.
 fn get_at_answer(read: Result<Option<Value>, AtFail>) -> Result<Answer, Halt>
-    ensures { result ≡ told_past read }
+    ensures { result ≡ past_answer read }
 {
     match read {
         Ok(None) => Ok(Answer::NoValue),

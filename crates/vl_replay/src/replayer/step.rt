@@ -1,6 +1,6 @@
 //! How rotations and flushes are answered.
 ghost use Rattle.std.specs.Prelude.{◌≡◌};
-ghost use Rattle.vl_replay_laws.specs.Standing.{told_step};
+ghost use Rattle.vl_replay_laws.specs.Standing.{step_answer};
 
 use vl_engine::StepFail;
 use vl_script::Answer;
@@ -8,7 +8,7 @@ use vl_script_model::Halt;
 
 // How a step on files is answered.
 pub(super) fn step_answer(stepped: Result<Option<u32>, StepFail>) -> Result<Answer, Halt>
-    ensures { result ≡ told_step stepped }
+    ensures { result ≡ step_answer stepped }
 {
     match stepped {
         Ok(Some(number)) => Ok(Answer::Number {

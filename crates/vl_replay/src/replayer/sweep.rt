@@ -14,7 +14,7 @@ ghost use Rattle.vl_script_model.specs.Halts.{HaltsByDisk, HaltsByRead};
 ghost use Rattle.vl_replay_laws.specs.Replaying.{MakesStep, state_by};
 ghost use Rattle.vl_replay.specs.Served.{RemovesIn, StandsRemoving};
 ghost use Rattle.vl_script_model.specs.Sequential.{State, history_of};
-ghost use Rattle.vl_replay_laws.specs.Standing.{told_sweep};
+ghost use Rattle.vl_replay_laws.specs.Standing.{sweep_answer};
 ghost use Rattle.vl_script_model.specs.Stored.{IsStopped, IsStored};
 ghost use Rattle.vl_script_model.specs.declared.fails.Halt.TheVariants as halts;
 
@@ -51,7 +51,7 @@ impl<D: Disk> Served<D> {
 
 // How a sweep is answered.
 fn sweep_answer(swept: Result<u64, SweepFail>) -> Result<Answer, Halt>
-    ensures { result ≡ told_sweep swept }
+    ensures { result ≡ sweep_answer swept }
 {
     match swept {
         Ok(count) => Ok(Answer::Removed { count }),

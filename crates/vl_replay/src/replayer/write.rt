@@ -9,7 +9,7 @@ ghost use Rattle.vl_model.specs.Reads.{Read};
 ghost use Rattle.vl_replay_laws.specs.Replaying.{MakesStep, OnlyNoMemory};
 ghost use Rattle.vl_replay.specs.Served.{ServesFor};
 ghost use Rattle.vl_script_model.specs.Sequential.{State};
-ghost use Rattle.vl_replay_laws.specs.Standing.{change_of, told_write};
+ghost use Rattle.vl_replay_laws.specs.Standing.{change_of, write_answer};
 ghost use Rattle.vl_txn.specs.Refusals.{IsWritten};
 
 use crate::replayer::Served;
@@ -62,7 +62,7 @@ fn change<H: HeldFile, R: Reader<Held = H> + Drop>(
 
 // How a write is answered.
 fn write_answer(written: Result<(), SetFail>) -> Result<Answer, Halt>
-    ensures { result ≡ told_write written }
+    ensures { result ≡ write_answer written }
 {
     match written {
         Ok(()) => Ok(Answer::Done),

@@ -15,8 +15,8 @@ use Rattle.vl_engine_model.specs.Store.Things.{AJob, APass, ATransaction, AView,
 use Rattle.vl_model.specs.History.{Extends, History, with_commit}
 use Rattle.vl_model.specs.Keys.{Row, tagged, untagged}
 use Rattle.vl_model.specs.declared.change.Change.TheVariants.{Set as Put, Delete as Deleted}
-use Rattle.vl_script_model.specs.Sequential.{IsTold, State, answer_text, answer_to, as_told, history_of, state_after}
-use Rattle.vl_script_model.specs.Sequential.{stat_told, step_to, told_row, told_segment, without_lengths}
+use Rattle.vl_script_model.specs.Sequential.{IsPrinted, State, answer_text, answer_to, as_printed, history_of, state_after}
+use Rattle.vl_script_model.specs.Sequential.{stat_of_line, step_to, row_line, segment_line, without_lengths}
 use Rattle.vl_script_model.specs.laws.Growing.{batch_keeps, begin_keeps, commit_or, get_at_keeps, get_keeps, history_more}
 use Rattle.vl_script_model.specs.laws.Growing.{install_commits, move_commits, pick_commits, plan_commits, scan_keeps, write_keeps}
 use Rattle.vl_script.specs.Script.{as_line, row_text, rows_text, segments_text, text_of}
@@ -95,50 +95,50 @@ line_keeps s line none = elim (line_adds s line) [
 
 -- ---- answers
 
-rows_alike : (rows : List Row) → flat_map row_text rows ≡ flat_map row_text (map told_row (rows_told rows))
+rows_alike : (rows : List Row) → flat_map row_text rows ≡ flat_map row_text (map row_line (rows_told rows))
 rows_alike [] = refl
 rows_alike (row ∷ rows) = ap (λ (text : List ℕ). row_text row ++ text) (rows_alike rows)
 
-rows_many : (rows : List Row) → length rows ≡ length (map told_row (rows_told rows))
+rows_many : (rows : List Row) → length rows ≡ length (map row_line (rows_told rows))
 rows_many [] = refl
 rows_many (row ∷ rows) = ap suc (rows_many rows)
 
-segments_alike : (segments : List SegmentLine) → segments ≡ map told_segment (map stat_told segments)
+segments_alike : (segments : List SegmentLine) → segments ≡ map segment_line (map stat_of_line segments)
 segments_alike [] = refl
 segments_alike (s ∷ segments) = ap (λ (rest : List SegmentLine). s ∷ rest) (segments_alike segments)
 
 -- what is printed of an answer is what is printed of it as the store has it
-told_text : (answer : Answer) → text_of answer ≡ answer_text (as_told answer)
-told_text answers.Done = refl
-told_text (answers.Number n) = refl
-told_text (answers.Found value) = refl
-told_text (answers.FoundTagged value) = refl
-told_text answers.NoValue = refl
-told_text (answers.Dropped least) = refl
-told_text (answers.Rows rows) = rows_text_alike rows.items
+printed_text : (answer : Answer) → text_of answer ≡ answer_text (as_printed answer)
+printed_text answers.Done = refl
+printed_text (answers.Number n) = refl
+printed_text (answers.Found value) = refl
+printed_text (answers.FoundTagged value) = refl
+printed_text answers.NoValue = refl
+printed_text (answers.Dropped least) = refl
+printed_text (answers.Rows rows) = rows_text_alike rows.items
   where
-    rows_text_alike : (rows : List Row) → rows_text rows ≡ rows_text (map told_row (rows_told rows))
+    rows_text_alike : (rows : List Row) → rows_text rows ≡ rows_text (map row_line (rows_told rows))
     rows_text_alike rows = ap (λ (n : ℕ). as_line (codes "rows " ++ decimal n) ++ flat_map row_text rows) (rows_many rows)
-        ∙ ap (λ (text : List ℕ). as_line (codes "rows " ++ decimal (length (map told_row (rows_told rows)))) ++ text) (rows_alike rows)
-told_text (answers.Taken name) = refl
-told_text (answers.Unknown name) = refl
-told_text answers.ReadOnly = refl
-told_text answers.Invalid = refl
-told_text answers.TooBig = refl
-told_text answers.TooMany = refl
-told_text answers.Nothing = refl
-told_text (answers.Conflict key number) = refl
-told_text answers.Full = refl
-told_text answers.Idle = refl
-told_text (answers.Exhausted counter) = refl
-told_text (answers.Raced key) = refl
-told_text (answers.Rejected segment) = refl
-told_text answers.NoRewrite = refl
-told_text (answers.FoundRecords count) = refl
-told_text answers.End = refl
-told_text (answers.Moved count) = refl
-told_text (answers.Removed count) = refl
-told_text (answers.Segments segments) = ap segments_text (segments_alike segments.items)
+        ∙ ap (λ (text : List ℕ). as_line (codes "rows " ++ decimal (length (map row_line (rows_told rows)))) ++ text) (rows_alike rows)
+printed_text (answers.Taken name) = refl
+printed_text (answers.Unknown name) = refl
+printed_text answers.ReadOnly = refl
+printed_text answers.Invalid = refl
+printed_text answers.TooBig = refl
+printed_text answers.TooMany = refl
+printed_text answers.Nothing = refl
+printed_text (answers.Conflict key number) = refl
+printed_text answers.Full = refl
+printed_text answers.Idle = refl
+printed_text (answers.Exhausted counter) = refl
+printed_text (answers.Raced key) = refl
+printed_text (answers.Rejected segment) = refl
+printed_text answers.NoRewrite = refl
+printed_text (answers.FoundRecords count) = refl
+printed_text answers.End = refl
+printed_text (answers.Moved count) = refl
+printed_text (answers.Removed count) = refl
+printed_text (answers.Segments segments) = ap segments_text (segments_alike segments.items)
 
 -- the lengths of a log aren't printed
 lengths_untold : (answer : store.Answer) → answer_text (without_lengths answer) ≡ answer_text answer
@@ -146,15 +146,15 @@ lengths_untold (store.Full length frame) = refl
 lengths_untold answer = refl
 
 -- An answer that is told is printed as the store's.
-pub is_told_text : (told : Answer) (answer : store.Answer) → IsTold told answer → text_of told ≡ answer_text answer
-is_told_text told answer is = told_text told ∙ ap answer_text is ∙ lengths_untold answer
+pub is_printed_text : (told : Answer) (answer : store.Answer) → IsPrinted told answer → text_of told ≡ answer_text answer
+is_printed_text told answer is = printed_text told ∙ ap answer_text is ∙ lengths_untold answer
 
 -- What is told by a number is a number.
-pub told_number : (told : Answer) (answer : store.Answer) (n : ℕ) → IsTold told answer → answer ≡ store.Number n
+pub printed_number : (told : Answer) (answer : store.Answer) (n : ℕ) → IsPrinted told answer → answer ≡ store.Number n
     → told ≡ answers.Number n
-told_number told answer n is number = of told (is ∙ ap without_lengths number)
+printed_number told answer n is number = of told (is ∙ ap without_lengths number)
   where
-    of : (told : Answer) → as_told told ≡ store.Number n → told ≡ answers.Number n
+    of : (told : Answer) → as_printed told ≡ store.Number n → told ≡ answers.Number n
     of (answers.Number m) e = cc
     of answers.Done e = absurd cc
     of (answers.Found value) e = absurd cc
@@ -183,10 +183,10 @@ told_number told answer n is number = of told (is ∙ ap without_lengths number)
     of (answers.Segments segments) e = absurd cc
 
 -- And what is told by `ok` is that.
-pub told_done : (told : Answer) (answer : store.Answer) → IsTold told answer → answer ≡ store.Done → told ≡ answers.Done
-told_done told answer is done = of told (is ∙ ap without_lengths done)
+pub printed_done : (told : Answer) (answer : store.Answer) → IsPrinted told answer → answer ≡ store.Done → told ≡ answers.Done
+printed_done told answer is done = of told (is ∙ ap without_lengths done)
   where
-    of : (told : Answer) → as_told told ≡ store.Done → told ≡ answers.Done
+    of : (told : Answer) → as_printed told ≡ store.Done → told ≡ answers.Done
     of answers.Done e = refl
     of (answers.Number m) e = absurd cc
     of (answers.Found value) e = absurd cc
@@ -215,11 +215,11 @@ told_done told answer is done = of told (is ∙ ap without_lengths done)
     of (answers.Segments segments) e = absurd cc
 
 -- So it is with how many records were moved.
-pub told_moved : (told : Answer) (answer : store.Answer) (n : ℕ) → IsTold told answer → answer ≡ store.Moved n
+pub printed_moved : (told : Answer) (answer : store.Answer) (n : ℕ) → IsPrinted told answer → answer ≡ store.Moved n
     → told ≡ answers.Moved n
-told_moved told answer n is moved = of told (is ∙ ap without_lengths moved)
+printed_moved told answer n is moved = of told (is ∙ ap without_lengths moved)
   where
-    of : (told : Answer) → as_told told ≡ store.Moved n → told ≡ answers.Moved n
+    of : (told : Answer) → as_printed told ≡ store.Moved n → told ≡ answers.Moved n
     of (answers.Moved m) e = cc
     of answers.Done e = absurd cc
     of (answers.Number m) e = absurd cc
@@ -248,11 +248,11 @@ told_moved told answer n is moved = of told (is ∙ ap without_lengths moved)
     of (answers.Segments segments) e = absurd cc
 
 -- So it is with how many files were removed.
-pub told_removed : (told : Answer) (answer : store.Answer) (n : ℕ) → IsTold told answer → answer ≡ store.Removed n
+pub printed_removed : (told : Answer) (answer : store.Answer) (n : ℕ) → IsPrinted told answer → answer ≡ store.Removed n
     → told ≡ answers.Removed n
-told_removed told answer n is removed = of told (is ∙ ap without_lengths removed)
+printed_removed told answer n is removed = of told (is ∙ ap without_lengths removed)
   where
-    of : (told : Answer) → as_told told ≡ store.Removed n → told ≡ answers.Removed n
+    of : (told : Answer) → as_printed told ≡ store.Removed n → told ≡ answers.Removed n
     of (answers.Removed m) e = cc
     of answers.Done e = absurd cc
     of (answers.Number m) e = absurd cc

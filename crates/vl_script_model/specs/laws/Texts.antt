@@ -11,7 +11,7 @@ use Rattle.vl_script.specs.declared.answer.Answer.{Answer}
 use Rattle.vl_script.specs.declared.answer.Answer.TheVariants.{Done, Moved, Number, Removed}
 use Rattle.vl_script.specs.declared.line.Line.{Line}
 use Rattle.vl_script.specs.Script.{line_of}
-use Rattle.vl_script_model.specs.Sequential.{State, answer_to, state_after, history_of, IsTold}
+use Rattle.vl_script_model.specs.Sequential.{State, answer_to, state_after, history_of, IsPrinted}
 use Rattle.vl_script_model.specs.Exchanges.{exchange_at, exchanged, state_behind}
 use Rattle.vl_disk.specs.declared.name.Name.{Name}
 use Rattle.vl_script_model.specs.Halts.{HaltsByDamage, HaltsByDisk, HaltsByRead, HaltsByReader}
@@ -29,7 +29,7 @@ use Rattle.vl_script_model.specs.laws.Ends.{at_fault, or_cut}
 use Rattle.vl_script_model.specs.laws.DiskSteps.{IsWatched, text_extends, rests_until, it_holds, its_commits, opens_again}
 use Rattle.vl_script_model.specs.laws.DiskSteps.{ends_within, ends_unchanged}
 use Rattle.vl_script_model.specs.laws.ShownDisk.{shown_stays, stored_exactly}
-use Rattle.vl_script_model.specs.laws.Extending.{line_keeps, told_done, told_moved, told_number, told_removed}
+use Rattle.vl_script_model.specs.laws.Extending.{line_keeps, printed_done, printed_moved, printed_number, printed_removed}
 use Rattle.vl_script_model.specs.laws.Staying.{layout_stays}
 
 -- ---- results
@@ -170,7 +170,7 @@ module _ {D : Type 0} (g : Ghosts D) (watched : IsWatched g) (s : State) (text :
         })
 
     -- the answer to a line that makes no call found no memory
-    pub kept_without_number : (line : Line) (answer : Answer) → IsSound s → IsTold answer (answer_to s line)
+    pub kept_without_number : (line : Line) (answer : Answer) → IsSound s → IsPrinted answer (answer_to s line)
         → ((n : ℕ) → answer ≡ Number n → ⊥) → (answer ≡ Done → ⊥) → ((n : ℕ) → answer ≡ Moved n → ⊥)
         → ((n : ℕ) → answer ≡ Removed n → ⊥)
         → HoldsState g IsStored (state_after s line) new
@@ -179,14 +179,14 @@ module _ {D : Type 0} (g : Ghosts D) (watched : IsWatched g) (s : State) (text :
       state_after s line,
       line_keeps s line unnumbered,
       layout_stays s line sound unnumbered
-          (λ done. undone (told_done answer (answer_to s line) is done))
-          (λ n moved. unmoved n (told_moved answer (answer_to s line) n is moved))
-          (λ n removed. unremoved n (told_removed answer (answer_to s line) n is removed)),
+          (λ done. undone (printed_done answer (answer_to s line) is done))
+          (λ n moved. unmoved n (printed_moved answer (answer_to s line) n is moved))
+          (λ n removed. unremoved n (printed_removed answer (answer_to s line) n is removed)),
       held.there,
     )
       where
         unnumbered : (n : ℕ) → answer_to s line ≡ store.Number n → ⊥
-        unnumbered n numbered = none n (told_number answer (answer_to s line) n is numbered)
+        unnumbered n numbered = none n (printed_number answer (answer_to s line) n is numbered)
 
     -- ---- how a run ends there
 

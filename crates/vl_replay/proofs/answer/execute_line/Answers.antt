@@ -9,7 +9,7 @@ use Rattle.vl_script_model.specs.declared.fails.Halt.TheVariants as why
 use Rattle.vl_script_model.specs.laws.AskingLaws.{line_asks}
 use Rattle.vl_script_model.specs.laws.Ends.{exchange_at-answered}
 use Rattle.vl_script_model.specs.laws.Halting.{by_disk_still, by_read_still, out_not_by_disk, out_readable}
-use Rattle.vl_script_model.specs.laws.Extending.{is_told_text}
+use Rattle.vl_script_model.specs.laws.Extending.{is_printed_text}
 use Rattle.vl_script_model.specs.laws.Texts.{by_damage_still, by_reader_still, carries_nothing, carries_bad, carries_line}
 use Rattle.vl_script_model.specs.laws.Texts.{kept_without_number, of_ok, ok_not_err, ok_not_out, out_not_by_reader}
 use Rattle.vl_script_model.specs.laws.Texts.{out_undamaged, same_halt}
@@ -26,7 +26,7 @@ returns-clause-answers g c s stands =
       exchange_at-answered s c.args.text.now line (sym c.in_ok-line.ensures ∙ c.in-Some.is),
       c.in_ok-answer.ensures.after s stands,
       c.in_ok-print_answer.ensures.text ∙ ap (λ (l : List ℕ). l ++ text_of answer) c.in_ok-out.ensures.items
-          ∙ is_told_text answer (answer_to s line) (c.in_ok-answer.ensures.answer s stands),
+          ∙ is_printed_text answer (answer_to s line) (c.in_ok-answer.ensures.answer s stands),
     )
 
 pub returns-in_err-line-clause-carries : goal.returns-in_err-line-clause-carries

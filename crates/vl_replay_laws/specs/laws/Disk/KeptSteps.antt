@@ -31,7 +31,7 @@ use Rattle.vl_script_model.specs.Durable.{CarriesOut, CrashesShow, HoldsCommits,
 use Rattle.vl_script_model.specs.Halts.{HaltsByRead}
 use Rattle.vl_replay_laws.specs.Replaying.{StandsIn, state_by}
 use Rattle.vl_script_model.specs.Sequential.{State, history_of}
-use Rattle.vl_replay_laws.specs.Standing.{told_keep}
+use Rattle.vl_replay_laws.specs.Standing.{keep_answer}
 use Rattle.vl_script_model.specs.Stopped.{AreNumberedUpTo, StopsStep, step_failed}
 use Rattle.vl_script_model.specs.Stored.{IsStopped, IsStored}
 use Rattle.vl_script_model.specs.declared.fails.Halt.{Halt}
@@ -55,7 +55,7 @@ unkept_at (Err unkept.NoMemory) failed = absurd failed
 unkept_at (Err (unkept.Disk name)) failed = (name, refl)
 unkept_at (Err (unkept.Halted name)) failed = absurd failed
 
-pub keep_halted_at : (result : Result ⊤ KeepFail) (file : FileName) → told_keep result ≡ Err (why.Disk file)
+pub keep_halted_at : (result : Result ⊤ KeepFail) (file : FileName) → keep_answer result ≡ Err (why.Disk file)
     → result ≡ Err (unkept.Disk file)
 keep_halted_at (Ok done) file is = absurd cc
 keep_halted_at (Err unkept.InvalidRequest) file is = absurd cc
@@ -105,7 +105,7 @@ module _ {D H R : Type 0} (g : Ghosts D) (watched : IsWatched g) (bytes : H → 
         → Carries g bytes old new after h l r (as_before l l) (keep_outcome result) effects
     pub files : SameFiles (g.told old) (g.told new)
     pub within : (KeepFailed result → ⊥) → after.back.state.next_log ≤ after.back.next_log
-    pub sound : HaltsByRead (told_keep result) → ⊥
+    pub sound : HaltsByRead (keep_answer result) → ⊥
     pub stops : KeepFailed result → StopsKeep
 
   module _ (held : HoldsState g IsStored s old) (result : Result ⊤ KeepFail) (did : DidKeep result) where
@@ -191,7 +191,7 @@ module _ {D H R : Type 0} (g : Ghosts D) (watched : IsWatched g) (bytes : H → 
         }
 
   module _ (held : HoldsState g IsStored s old) where
-    answered_of : (result : Result ⊤ KeepFail) → DidKeep result → OnOk (told_keep result) (HoldsState g IsStored behind new)
+    answered_of : (result : Result ⊤ KeepFail) → DidKeep result → OnOk (keep_answer result) (HoldsState g IsStored behind new)
     answered_of (Ok done) did = holds_answered held (Ok done) did rulings.Kept refl (λ failed. failed)
     answered_of (Err unkept.InvalidRequest) did =
         holds_answered held (Err unkept.InvalidRequest) did rulings.InvalidRequest refl (λ failed. failed)
@@ -199,7 +199,7 @@ module _ {D H R : Type 0} (g : Ghosts D) (watched : IsWatched g) (bytes : H → 
     answered_of (Err (unkept.Disk at)) did = tt
     answered_of (Err (unkept.Halted at)) did = tt
 
-    short_of : (result : Result ⊤ KeepFail) → DidKeep result → told_keep result ≡ Err why.NoMemory → HoldsCommits g IsStored s new
+    short_of : (result : Result ⊤ KeepFail) → DidKeep result → keep_answer result ≡ Err why.NoMemory → HoldsCommits g IsStored s new
     short_of (Ok done) did out = absurd cc
     short_of (Err unkept.InvalidRequest) did out = absurd cc
     short_of (Err unkept.NoMemory) did out =
@@ -208,7 +208,7 @@ module _ {D H R : Type 0} (g : Ghosts D) (watched : IsWatched g) (bytes : H → 
     short_of (Err (unkept.Halted at)) did out = absurd cc
 
   -- A change of how many versions are kept is carried out so.
-  pub keep_carries : (kept : Result ⊤ KeepFail) → DidKeep kept → (result : Result Answer Halt) → result ≡ told_keep kept
+  pub keep_carries : (kept : Result ⊤ KeepFail) → DidKeep kept → (result : Result Answer Halt) → result ≡ keep_answer kept
       → CarriesOut g IsStored Shown IsStopped old new s behind result
   keep_carries kept did result is held =
       subst (λ (x : Result Answer Halt). LeadsTo g IsStored Shown IsStopped old new s behind x) (sym is) (record {

@@ -37,7 +37,7 @@ use Rattle.vl_script_model.specs.Durable.{CarriesOut, CrashesShow, HoldsCommits,
 use Rattle.vl_script_model.specs.Halts.{HaltsByRead}
 use Rattle.vl_replay_laws.specs.Replaying.{StandsIn, state_by_step}
 use Rattle.vl_script_model.specs.Sequential.{State, files_behind, history_of}
-use Rattle.vl_replay_laws.specs.Standing.{told_step}
+use Rattle.vl_replay_laws.specs.Standing.{step_answer}
 use Rattle.vl_script_model.specs.Stopped.{AreNumberedUpTo, StopsStep, step_failed}
 use Rattle.vl_script_model.specs.Stored.{IsStopped, IsStored}
 use Rattle.vl_script_model.specs.declared.fails.Halt.{Halt}
@@ -62,7 +62,7 @@ failed_at (Err (undone.Disk name)) failed = (name, refl)
 failed_at (Err (undone.Halted name)) failed = absurd failed
 
 -- where a line was halted at a file, its step was
-pub halted_at : (result : Result (Option ℕ) StepFail) (file : FileName) → told_step result ≡ Err (why.Disk file)
+pub halted_at : (result : Result (Option ℕ) StepFail) (file : FileName) → step_answer result ≡ Err (why.Disk file)
     → result ≡ Err (undone.Disk file)
 halted_at (Ok (Some number)) file is = absurd cc
 halted_at (Ok None) file is = absurd cc
@@ -149,7 +149,7 @@ module _ {D H R : Type 0} (g : Ghosts D) (watched : IsWatched g) (bytes : H → 
     pub files : KeepsOthers name (g.told old) (g.told new)
     pub near : (disk : DiskState) → IsStored s disk → file_number name ≤ s.files + 1
     pub within : (StepFailed result → ⊥) → after.back.state.next_log ≤ after.back.next_log
-    pub sound : HaltsByRead (told_step result) → ⊥
+    pub sound : HaltsByRead (step_answer result) → ⊥
     pub stops : StepFailed result → Stops all
 
   module _ (all : ℕ) (name : FileName) (held : HoldsState g IsStored s old) where
@@ -259,7 +259,7 @@ module _ {D H R : Type 0} (g : Ghosts D) (watched : IsWatched g) (bytes : H → 
                 (let up = (stops_step stops now told).few in let one = stops.one in omega (arith, up, one));
           }
 
-    answered_of : (result : Result (Option ℕ) StepFail) → Did all name result → OnOk (told_step result) (HoldsState g IsStored then new)
+    answered_of : (result : Result (Option ℕ) StepFail) → Did all name result → OnOk (step_answer result) (HoldsState g IsStored then new)
     answered_of (Ok (Some number)) did =
         let same = ((carried (Ok (Some number)) did).decides.answered (rulings.Stepped number) refl).0 in
         let one : s.files + 1 ≡ then.files = ap (λ (a : StepAnswer). files_behind (step_told a) s.files) same in
@@ -275,7 +275,7 @@ module _ {D H R : Type 0} (g : Ghosts D) (watched : IsWatched g) (bytes : H → 
     answered_of (Err (undone.Disk at)) did = tt
     answered_of (Err (undone.Halted at)) did = tt
 
-    short_of : (result : Result (Option ℕ) StepFail) → Did all name result → told_step result ≡ Err why.NoMemory
+    short_of : (result : Result (Option ℕ) StepFail) → Did all name result → step_answer result ≡ Err why.NoMemory
         → HoldsCommits g IsStored s new
     short_of (Ok (Some number)) did out = absurd cc
     short_of (Ok None) did out = absurd cc
@@ -286,7 +286,7 @@ module _ {D H R : Type 0} (g : Ghosts D) (watched : IsWatched g) (bytes : H → 
     short_of (Err (undone.Halted at)) did out = absurd cc
 
     leads : (result : Result (Option ℕ) StepFail) → Did all name result
-        → LeadsTo g IsStored Shown IsStopped old new s then (told_step result)
+        → LeadsTo g IsStored Shown IsStopped old new s then (step_answer result)
     leads result did = record {
       answered = answered_of result did;
       no_commit = short_of result did;
@@ -299,7 +299,7 @@ module _ {D H R : Type 0} (g : Ghosts D) (watched : IsWatched g) (bytes : H → 
 
   -- A rotation or a flush is carried out so.
   pub step_carries : (all : ℕ) (name : FileName) (stepped : Result (Option ℕ) StepFail) → Did all name stepped
-      → (result : Result Answer Halt) → result ≡ told_step stepped
+      → (result : Result Answer Halt) → result ≡ step_answer stepped
       → CarriesOut g IsStored Shown IsStopped old new s then result
   step_carries all name stepped did result is held =
       subst (λ (x : Result Answer Halt). LeadsTo g IsStored Shown IsStopped old new s then x) (sym is) (leads all name held stepped did)

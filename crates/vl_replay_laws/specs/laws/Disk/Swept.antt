@@ -47,7 +47,7 @@ use Rattle.vl_script_model.specs.Between.{ShowsBetween}
 use Rattle.vl_script_model.specs.Durable.{CarriesOut, CrashesShow, HoldsCommits, HoldsState, LeadsTo, StopsWithin}
 use Rattle.vl_script_model.specs.Halts.{HaltsByRead}
 use Rattle.vl_replay_laws.specs.Replaying.{StandsIn, state_by}
-use Rattle.vl_replay_laws.specs.Standing.{told_sweep}
+use Rattle.vl_replay_laws.specs.Standing.{sweep_answer}
 use Rattle.vl_script_model.specs.Sequential.{State, history_of}
 use Rattle.vl_script_model.specs.Stopped.{AreNumberedUpTo, StopsStep, step_failed}
 use Rattle.vl_script_model.specs.Stored.{IsStopped, IsStored}
@@ -150,7 +150,7 @@ module _ {D H R W : Type 0} (g : Ghosts D) (watched : IsWatched g) (w : Writers 
     pub files : KeepsAllBut (names_of (ready (up_to None before.back.epoch kept.pins) kept.stock.trash.items))
         (g.told old) (g.told new)
     pub within : after.back.state.next_log ≤ after.back.next_log
-    pub sound : HaltsByRead (told_sweep result) → ⊥
+    pub sound : HaltsByRead (sweep_answer result) → ⊥
     pub as_swept : SweepsAs g w (up_to None before.back.epoch kept.pins) old new before after kept kept' result
     pub there : before.front.halted ≡ None → IsThere g w old before merging kept.stock
     pub leaves : engine.Represents bytes before (g.told old) h l → SweepFailed result → (now : DiskState) → g.told new ≡ Some now
@@ -172,7 +172,7 @@ module _ {D H R W : Type 0} (g : Ghosts D) (watched : IsWatched g) (w : Writers 
   -- where it failed it was at one of them
   pub sweep_named : (result : Result ℕ SweepFail) (file : FileName)
       → SweepsAs g w (up_to None before.back.epoch kept.pins) old new before after kept kept' result
-      → told_sweep result ≡ Err (why.Disk file) → is_in (file_of file) (swept None s.store.layout) ≡ true
+      → sweep_answer result ≡ Err (why.Disk file) → is_in (file_of file) (swept None s.store.layout) ≡ true
   sweep_named (Ok count) file did is = absurd cc
   sweep_named (Err (unswept.Halted name)) file did is = absurd cc
   sweep_named (Err (unswept.Disk name)) file did is =
@@ -299,12 +299,12 @@ module _ {D H R W : Type 0} (g : Ghosts D) (watched : IsWatched g) (w : Writers 
           }
 
   module _ (held : HoldsState g IsStored s old) (merging : Option OpenMerge) where
-    answered_of : (result : Result ℕ SweepFail) → DidSweep merging result → OnOk (told_sweep result) (HoldsState g IsStored behind new)
+    answered_of : (result : Result ℕ SweepFail) → DidSweep merging result → OnOk (sweep_answer result) (HoldsState g IsStored behind new)
     answered_of (Ok count) did = holds_answered held merging (Ok count) did (rulings.Removed count) refl
     answered_of (Err (unswept.Disk name)) did = tt
     answered_of (Err (unswept.Halted name)) did = tt
 
-    short_of : (result : Result ℕ SweepFail) → told_sweep result ≡ Err why.NoMemory → HoldsCommits g IsStored s new
+    short_of : (result : Result ℕ SweepFail) → sweep_answer result ≡ Err why.NoMemory → HoldsCommits g IsStored s new
     short_of (Ok count) out = absurd cc
     short_of (Err (unswept.Disk name)) out = absurd cc
     short_of (Err (unswept.Halted name)) out = absurd cc
@@ -316,7 +316,7 @@ module _ {D H R W : Type 0} (g : Ghosts D) (watched : IsWatched g) (w : Writers 
 
   -- A sweep is carried out so.
   pub sweep_carries : (merging : Option OpenMerge) (done : Result ℕ SweepFail) → DidSweep merging done → (result : Result Answer Halt)
-      → result ≡ told_sweep done → CarriesOut g IsStored Shown IsStopped old new s behind result
+      → result ≡ sweep_answer done → CarriesOut g IsStored Shown IsStopped old new s behind result
   sweep_carries merging done did result is held =
       subst (λ (x : Result Answer Halt). LeadsTo g IsStored Shown IsStopped old new s behind x) (sym is) (record {
         answered = answered_of held merging done did;

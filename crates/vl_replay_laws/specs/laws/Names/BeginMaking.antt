@@ -31,7 +31,7 @@ use Rattle.vl_engine_model.specs.declared.layout.Layout.{Layout}
 use Rattle.vl_model.specs.History.{History, last_number}
 use Rattle.vl_model.specs.Limits.{max_live}
 use Rattle.vl_replay_laws.specs.Replaying.{MakesStep, StandsIn, state_by}
-use Rattle.vl_script_model.specs.Sequential.{IsTold, State, history_of}
+use Rattle.vl_script_model.specs.Sequential.{IsPrinted, State, history_of}
 use Rattle.vl_replay_laws.specs.Standing.{Corresponds, IsTaken, Stand, open_in, ticket_of}
 use Rattle.vl_replay_laws.specs.declared.open.Open.{Open}
 use Rattle.vl_replay_laws.specs.declared.open.Thing.{Thing}
@@ -94,7 +94,7 @@ module _ {H R : Type 0} (bytes : H → Option (List ℕ)) (seen now : Option Dis
 
   -- one that changes nothing
   pub kept_makes : (new : List (Open H R)) (x : Step) (told : Answer) (answer : store_lines.Answer) → x ≡ only answer s.store
-      → IsTold told answer → Serving h l → Stand bytes new s.store.things h l → MakesStep bytes now after new s x (Ok told)
+      → IsPrinted told answer → Serving h l → Stand bytes new s.store.things h l → MakesStep bytes now after new s x (Ok told)
   kept_makes new x told answer same is there names =
       subst (λ (y : Step). MakesStep bytes now after new s y (Ok told)) (sym same)
       (is, stands_as new (only answer s.store) there names stands.sound refl)

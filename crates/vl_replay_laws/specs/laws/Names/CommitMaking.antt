@@ -32,7 +32,7 @@ use Rattle.vl_model.specs.Limits.{max_commit_number}
 use Rattle.vl_model.specs.declared.counter.Counter.{Counter}
 use Rattle.vl_model.specs.declared.counter.Counter.TheVariants.{Commit as CommitNumber}
 use Rattle.vl_replay_laws.specs.Replaying.{MakesStep, StandsIn, state_by}
-use Rattle.vl_script_model.specs.Sequential.{IsTold, State, history_of}
+use Rattle.vl_script_model.specs.Sequential.{IsPrinted, State, history_of}
 use Rattle.vl_replay_laws.specs.Standing.{IsTaken, IsTransaction, Stand}
 use Rattle.vl_replay_laws.specs.declared.open.Open.{Open}
 use Rattle.vl_replay_laws.specs.declared.open.Thing.TheVariants.{Transaction}
@@ -153,7 +153,7 @@ module _ {H R : Type 0} (bytes : H → Option (List ℕ)) (seen now : Option Dis
     sound_by a same = subst (λ (y : Step). IsSound (state_by s y)) (step_by a same) (state_after-sound s (lines.Commit name) stands.sound)
 
     makes_by : (a : CommitAnswer) (same : a ≡ (commit_ruling l h t).answer) (new : List (Open H R)) (told : Answer)
-        → IsTold told (by a).answer → StandsIn bytes now after new (state_by s (by a))
+        → IsPrinted told (by a).answer → StandsIn bytes now after new (state_by s (by a))
         → MakesStep bytes now after new s committing (Ok told)
     makes_by a same new told is_told stands_then =
         subst (λ (y : Step). MakesStep bytes now after new s y (Ok told)) (sym (step_by a same)) (is_told, stands_then)

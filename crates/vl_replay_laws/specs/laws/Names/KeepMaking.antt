@@ -22,7 +22,7 @@ use Rattle.vl_model.specs.History.{History}
 use Rattle.vl_script_model.specs.Halts.{HaltsByDisk, HaltsByRead}
 use Rattle.vl_replay_laws.specs.Replaying.{MakesStep, StandsIn, state_by}
 use Rattle.vl_script_model.specs.Sequential.{State, history_of, without_lengths}
-use Rattle.vl_replay_laws.specs.Standing.{ReadsNoTable, Stand, told_keep}
+use Rattle.vl_replay_laws.specs.Standing.{ReadsNoTable, Stand, keep_answer}
 use Rattle.vl_script_model.specs.declared.fails.Halt.{Halt}
 use Rattle.vl_replay_laws.specs.declared.open.Open.{Open}
 use Rattle.vl_script_model.specs.laws.Laws.{IsSound}
@@ -133,7 +133,7 @@ module _ {H R : Type 0} (bytes : H → Option (List ℕ)) (seen now : Option Dis
     pub keep_makes : (result : Result ⊤ KeepFail)
         → Decides (Serves bytes now s.openable after) h l r otherwise (keep_outcome result) effects
         → ((KeepFailed result → ⊥) → after.back.state.next_log ≤ after.back.next_log)
-        → MakesStep bytes now after os s (keep_by s.store r) (told_keep result)
+        → MakesStep bytes now after os s (keep_by s.store r) (keep_answer result)
     keep_makes (Ok done) decides within =
         let (same, there) = decides.answered rulings.Kept refl in
         (ap (λ (a : KeepAnswer). without_lengths (keep_told a)) same, keep_stands there (within (λ failed. failed)))
@@ -146,7 +146,7 @@ module _ {H R : Type 0} (bytes : H → Option (List ℕ)) (seen now : Option Dis
 
     -- an engine that stands for what isn't halted isn't halted
     pub keep_sound : (result : Result ⊤ KeepFail)
-        → Decides (Serves bytes now s.openable after) h l r otherwise (keep_outcome result) effects → HaltsByRead (told_keep result) → ⊥
+        → Decides (Serves bytes now s.openable after) h l r otherwise (keep_outcome result) effects → HaltsByRead (keep_answer result) → ⊥
     keep_sound (Ok done) decides halts = halts
     keep_sound (Err unkept.InvalidRequest) decides halts = halts
     keep_sound (Err unkept.NoMemory) decides halts = halts
@@ -159,7 +159,7 @@ module _ {H R : Type 0} (bytes : H → Option (List ℕ)) (seen now : Option Dis
 module _ (leaves : History → Layout → Type 0) (h : History) (l : Layout) (r : Ruling KeepAnswer) (otherwise : Otherwise)
     (effects : Effects) where
   pub keep_leaves : (result : Result ⊤ KeepFail) → Decides leaves h l r otherwise (keep_outcome result) effects
-      → OnOk (told_keep result) (leaves r.history r.layout)
+      → OnOk (keep_answer result) (leaves r.history r.layout)
   keep_leaves (Ok done) decides = (decides.answered rulings.Kept refl).1
   keep_leaves (Err unkept.InvalidRequest) decides = (decides.answered rulings.InvalidRequest refl).1
   keep_leaves (Err unkept.NoMemory) decides = tt
@@ -168,21 +168,21 @@ module _ (leaves : History → Layout → Type 0) (h : History) (l : Layout) (r 
 
 -- ---- where the disk failed
 
-pub keep_failed : (result : Result ⊤ KeepFail) → HaltsByDisk (told_keep result) → KeepFailed result
+pub keep_failed : (result : Result ⊤ KeepFail) → HaltsByDisk (keep_answer result) → KeepFailed result
 keep_failed (Ok done) halts = halts
 keep_failed (Err unkept.InvalidRequest) halts = halts
 keep_failed (Err unkept.NoMemory) halts = halts
 keep_failed (Err (unkept.Disk name)) halts = halts
 keep_failed (Err (unkept.Halted name)) halts = absurd halts
 
-failed_keep : (result : Result ⊤ KeepFail) → KeepFailed result → HaltsByDisk (told_keep result)
+failed_keep : (result : Result ⊤ KeepFail) → KeepFailed result → HaltsByDisk (keep_answer result)
 failed_keep (Ok done) failed = failed
 failed_keep (Err unkept.InvalidRequest) failed = failed
 failed_keep (Err unkept.NoMemory) failed = failed
 failed_keep (Err (unkept.Disk name)) failed = failed
 failed_keep (Err (unkept.Halted name)) failed = absurd failed
 
-pub keep_cause : (kept : Result ⊤ KeepFail) (result : Result Answer Halt) → result ≡ told_keep kept → (before now : ℕ)
+pub keep_cause : (kept : Result ⊤ KeepFail) (result : Result Answer Halt) → result ≡ keep_answer kept → (before now : ℕ)
     → HasCause before now (KeepFailed kept) → HasCause before now (HaltsByDisk result)
 keep_cause kept result is before now cause = record {
   later = cause.later;

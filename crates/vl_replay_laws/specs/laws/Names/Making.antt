@@ -28,10 +28,10 @@ use Rattle.vl_model.specs.declared.change.Change.TheVariants.{Delete as Deletes,
 use Rattle.vl_txn.specs.Refusals.{IsWritten}
 use Rattle.vl_txn.specs.declared.set_fail.SetFail.{SetFail}
 use Rattle.vl_replay_laws.specs.Replaying.{MakesStep, StandsIn, state_by}
-use Rattle.vl_script_model.specs.Sequential.{IsTold, State, history_of}
+use Rattle.vl_script_model.specs.Sequential.{IsPrinted, State, history_of}
 use Rattle.vl_engine_model.specs.Jobs.{Made}
 use Rattle.vl_engine_model.specs.declared.job.Job.{Job}
-use Rattle.vl_replay_laws.specs.Standing.{Corresponds, IsTaken, IsTransaction, ReadsNoTable, Stand, open_in, told_write}
+use Rattle.vl_replay_laws.specs.Standing.{Corresponds, IsTaken, IsTransaction, ReadsNoTable, Stand, open_in, write_answer}
 use Rattle.vl_script_model.specs.declared.fails.Halt.{Halt}
 use Rattle.vl_replay_laws.specs.declared.open.Open.{Open}
 use Rattle.vl_replay_laws.specs.declared.open.Thing.{Thing}
@@ -128,7 +128,7 @@ module _ {H R : Type 0} (bytes : H → Option (List ℕ)) (seen : Option DiskSta
   }
 
   pub only_makes : (new : List (Open H R)) (x : Step) (told : Answer) (answer : store_lines.Answer) → x ≡ only answer s.store
-      → IsTold told answer → Stand bytes new ts h l → MakesStep bytes seen core new s x (Ok told)
+      → IsPrinted told answer → Stand bytes new ts h l → MakesStep bytes seen core new s x (Ok told)
   only_makes new x told answer same is names =
       subst (λ (y : Step). MakesStep bytes seen core new s y (Ok told)) (sym same) (is, only_stands new answer names)
 
@@ -205,15 +205,15 @@ module _ {H R : Type 0} (bytes : H → Option (List ℕ)) (seen : Option DiskSta
           → ((k : History) (reads : List Read) → Sees bytes txn k reads → Sees bytes new k reads)
           → (result : Result ⊤ SetFail) → IsWritten txn.writes key change new.writes result
           → MakesStep bytes seen core (left ++ record { name = name; thing = Transaction new } ∷ []) s
-          (write_by s.store name key change (thing_of s.store name)) (told_write result)
+          (write_by s.store name key change (thing_of s.store name)) (write_answer result)
       write_makes new key change keeps sees result written =
           let (t, b, there, is, began) = itself in
           let so = writes_so bytes s.store os left stands.names name txn new taken key change keeps t b there is began
           (sees h t.reads is.sees) result written in
           let behind : List (Open H R) = left ++ record { name = name; thing = Transaction new } ∷ [] in
           let x : Step = write_by s.store name key change (thing_of s.store name) in
-          both (λ (answer : Answer). IsTold answer x.answer) (Stand bytes behind x.state.things h l)
-          (StandsIn bytes seen core behind (state_by s x)) (told_write result)
+          both (λ (answer : Answer). IsPrinted answer x.answer) (Stand bytes behind x.state.things h l)
+          (StandsIn bytes seen core behind (state_by s x)) (write_answer result)
           (λ (names : Stand bytes behind x.state.things h l). quiet_stands bytes seen core os behind s x
           (write_quiet s.store name key change (thing_of s.store name)) stands names (write_sound key change))
           so.told so.names

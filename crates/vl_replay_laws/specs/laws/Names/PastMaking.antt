@@ -26,7 +26,7 @@ use Rattle.vl_script_model.specs.Failing.{ReaderFailed}
 use Rattle.vl_script_model.specs.Halts.{HaltsByDamage, HaltsByDisk, HaltsByReader}
 use Rattle.vl_replay_laws.specs.Replaying.{MakesStep, OnlyNoMemory, StandsIn}
 use Rattle.vl_script_model.specs.Sequential.{State, history_of, without_lengths}
-use Rattle.vl_replay_laws.specs.Standing.{IsTaken, Stand, told_past, told_value}
+use Rattle.vl_replay_laws.specs.Standing.{IsTaken, Stand, past_answer, value_answer}
 use Rattle.vl_script_model.specs.declared.fails.Halt.{Halt}
 use Rattle.vl_replay_laws.specs.declared.open.Open.{Open}
 use Rattle.vl_replay_laws.specs.declared.open.Thing.TheVariants.{Transaction, View}
@@ -38,7 +38,7 @@ use Rattle.vl_replay_laws.specs.laws.Names.ReadMaking.{told_is}
 -- ---- what is told
 
 sound_past : (answer : AtAnswer) (result : Result (Option Stored) AtFail) → IsAnsweredAt answer result → (AtFailed result → ⊥)
-    → OnlyNoMemory (told_past result)
+    → OnlyNoMemory (past_answer result)
 sound_past answer (Ok value) answered near = tt
 sound_past answer (Err gone.EmptyKey) answered near = tt
 sound_past answer (Err gone.KeyTooLong) answered near = tt
@@ -48,13 +48,13 @@ sound_past answer (Err gone.NoMemory) answered near = refl
 sound_past answer (Err (gone.Disk name)) answered near = absurd (near tt)
 sound_past answer (Err (gone.Damaged name place)) answered near = absurd answered
 
-pub past_sound : (answer : AtAnswer) (read : Result (Option Stored) AtFail) (result : Result Answer Halt) → result ≡ told_past read
+pub past_sound : (answer : AtAnswer) (read : Result (Option Stored) AtFail) (result : Result Answer Halt) → result ≡ past_answer read
     → IsAnsweredAt answer read → (AtFailed read → ⊥) → OnlyNoMemory result
 past_sound answer read result is answered near =
     subst (λ (r : Result Answer Halt). OnlyNoMemory r) (sym is) (sound_past answer read answered near)
 
 undamaged_past : (answer : AtAnswer) (result : Result (Option Stored) AtFail) → IsAnsweredAt answer result
-    → HaltsByDamage (told_past result) → ⊥
+    → HaltsByDamage (past_answer result) → ⊥
 undamaged_past answer (Ok value) answered halts = halts
 undamaged_past answer (Err gone.EmptyKey) answered halts = halts
 undamaged_past answer (Err gone.KeyTooLong) answered halts = halts
@@ -64,12 +64,12 @@ undamaged_past answer (Err gone.NoMemory) answered halts = halts
 undamaged_past answer (Err (gone.Disk name)) answered halts = halts
 undamaged_past answer (Err (gone.Damaged name place)) answered halts = answered
 
-pub past_undamaged : (answer : AtAnswer) (read : Result (Option Stored) AtFail) (result : Result Answer Halt) → result ≡ told_past read
+pub past_undamaged : (answer : AtAnswer) (read : Result (Option Stored) AtFail) (result : Result Answer Halt) → result ≡ past_answer read
     → IsAnsweredAt answer read → HaltsByDamage result → ⊥
 past_undamaged answer read result is answered halts =
     undamaged_past answer read answered (subst (λ (r : Result Answer Halt). HaltsByDamage r) is halts)
 
-failed_past : (result : Result (Option Stored) AtFail) → HaltsByReader (told_past result) → AtFailed result
+failed_past : (result : Result (Option Stored) AtFail) → HaltsByReader (past_answer result) → AtFailed result
 failed_past (Ok value) halts = halts
 failed_past (Err gone.EmptyKey) halts = halts
 failed_past (Err gone.KeyTooLong) halts = halts
@@ -79,13 +79,13 @@ failed_past (Err gone.NoMemory) halts = halts
 failed_past (Err (gone.Disk name)) halts = tt
 failed_past (Err (gone.Damaged name place)) halts = absurd halts
 
-pub past_counted : {R : Type 0} (read : Result (Option Stored) AtFail) (result : Result Answer Halt) → result ≡ told_past read
+pub past_counted : {R : Type 0} (read : Result (Option Stored) AtFail) (result : Result Answer Halt) → result ≡ past_answer read
     → (faults : R → ℕ) (old new : R) → HasCause (faults old) (faults new) (AtFailed read) → HaltsByReader result → ReaderFailed faults
 past_counted read result is faults old new cause halts =
     let rose = cause.rose (failed_past read (subst (λ (r : Result Answer Halt). HaltsByReader r) is halts)) in
     record { reader = new; some = omega (arith, rose) }
 
-by_disk_past : (result : Result (Option Stored) AtFail) → HaltsByDisk (told_past result) → ⊥
+by_disk_past : (result : Result (Option Stored) AtFail) → HaltsByDisk (past_answer result) → ⊥
 by_disk_past (Ok value) halts = halts
 by_disk_past (Err gone.EmptyKey) halts = halts
 by_disk_past (Err gone.KeyTooLong) halts = halts
@@ -95,7 +95,7 @@ by_disk_past (Err gone.NoMemory) halts = halts
 by_disk_past (Err (gone.Disk name)) halts = halts
 by_disk_past (Err (gone.Damaged name place)) halts = halts
 
-pub past_not_by_disk : (read : Result (Option Stored) AtFail) (result : Result Answer Halt) → result ≡ told_past read
+pub past_not_by_disk : (read : Result (Option Stored) AtFail) (result : Result Answer Halt) → result ≡ past_answer read
     → HaltsByDisk result → ⊥
 past_not_by_disk read result is halts = by_disk_past read (subst (λ (r : Result Answer Halt). HaltsByDisk r) is halts)
 
@@ -120,9 +120,9 @@ module _ {H R : Type 0} (bytes : H → Option (List ℕ)) (seen : Option DiskSta
   -- it is told so, and nothing is changed
   past_makes : (behind : List (Open H R)) (answer : AtAnswer) → reading ≡ only (told_at answer) s.store
       → (result : Result (Option Stored) AtFail) → IsAnsweredAt answer result
-      → Stand bytes behind s.store.things h s.store.layout → MakesStep bytes seen core behind s reading (told_past result)
+      → Stand bytes behind s.store.things h s.store.layout → MakesStep bytes seen core behind s reading (past_answer result)
   past_makes behind answer is (Ok value) answered names =
-      only_makes bytes seen core os s stands behind reading (told_value false value) (told_at answer) is
+      only_makes bytes seen core os s stands behind reading (value_answer false value) (told_at answer) is
       (told_is false value ∙ ap (λ (a : AtAnswer). without_lengths (told_at a)) (sym answered)) names
   past_makes behind answer is (Err gone.EmptyKey) answered names =
       only_makes bytes seen core os s stands behind reading answers.Invalid (told_at answer) is
@@ -143,7 +143,7 @@ module _ {H R : Type 0} (bytes : H → Option (List ℕ)) (seen : Option DiskSta
   pub view_past_makes : (view new : EngineView H R) → IsTaken os left name (Some (View view)) → OnlyReads view new
       → ((k : History) → SeesAlone bytes view k → SeesAlone bytes new k) → (result : Result (Option Stored) AtFail)
       → ((k : History) → SeesAlone bytes view k → IsAnsweredAt (at_answer k (beginning view.past) view.number key number) result)
-      → MakesStep bytes seen core (left ++ record { name = name; thing = View new } ∷ []) s reading (told_past result)
+      → MakesStep bytes seen core (left ++ record { name = name; thing = View new } ∷ []) s reading (past_answer result)
   view_past_makes view new taken keeps still result answered =
       let (b, there, sees, live, near, began) = its bytes seen core os s stands left name view taken in
       past_makes (left ++ record { name = name; thing = View new } ∷ []) (at_answer h b view.number key number)
@@ -155,7 +155,7 @@ module _ {H R : Type 0} (bytes : H → Option (List ℕ)) (seen : Option DiskSta
       → ((k : History) (reads : List Read) → Sees bytes txn k reads → Sees bytes new k reads) → (result : Result (Option Stored) AtFail)
       → ((k : History) (reads : List Read) → Sees bytes txn k reads
       → IsAnsweredAt (at_answer k (beginning txn.past) txn.number key number) result)
-      → MakesStep bytes seen core (left ++ record { name = name; thing = Transaction new } ∷ []) s reading (told_past result)
+      → MakesStep bytes seen core (left ++ record { name = name; thing = Transaction new } ∷ []) s reading (past_answer result)
   txn_past_makes txn new taken keeps still result answered =
       let (t, b, there, is, began) = itself bytes seen core os s stands left name txn taken in
       let own : txn.number ≡ t.number = ap (λ (u : ATxn). u.number) is.same in

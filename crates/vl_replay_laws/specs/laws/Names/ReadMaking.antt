@@ -27,8 +27,8 @@ use Rattle.vl_txn.specs.Refusals.{refused_key}
 use Rattle.vl_txn.specs.declared.key_fail.KeyFail.{KeyFail}
 use Rattle.vl_txn.specs.declared.key_fail.KeyFail.TheVariants.{EmptyKey, KeyTooLong}
 use Rattle.vl_replay_laws.specs.Replaying.{MakesStep, OnlyNoMemory, StandsIn, state_by}
-use Rattle.vl_script_model.specs.Sequential.{State, as_told, history_of, without_lengths}
-use Rattle.vl_replay_laws.specs.Standing.{IsTaken, tell_of, told_by, told_value}
+use Rattle.vl_script_model.specs.Sequential.{State, as_printed, history_of, without_lengths}
+use Rattle.vl_replay_laws.specs.Standing.{IsTaken, tell_of, read_answer, value_answer}
 use Rattle.vl_script_model.specs.Failing.{ReaderFailed}
 use Rattle.vl_script_model.specs.Halts.{HaltsByDamage, HaltsByReader}
 use Rattle.vl_script_model.specs.declared.fails.Halt.{Halt}
@@ -80,14 +80,14 @@ bounds_refused false high why is = refl
 
 -- ---- what is told
 
-pub told_is : (with_tag : Bool) (value : Option Stored) → as_told (told_value with_tag value) ≡ without_lengths (tell_of with_tag value)
+pub told_is : (with_tag : Bool) (value : Option Stored) → as_printed (value_answer with_tag value) ≡ without_lengths (tell_of with_tag value)
 told_is true None = refl
 told_is false None = refl
 told_is true (Some value) = refl
 told_is false (Some value) = refl
 
 pub sound_told : {V : Type 0} (tell : V → Answer) (result : Result V ReadFail) → IsSoundRead result → (ReadFailed result → ⊥)
-    → OnlyNoMemory (told_by tell result)
+    → OnlyNoMemory (read_answer tell result)
 sound_told tell (Ok value) sound near = tt
 sound_told tell (Err unread.EmptyKey) sound near = tt
 sound_told tell (Err unread.KeyTooLong) sound near = tt
@@ -97,13 +97,13 @@ sound_told tell (Err (unread.Damaged name place)) sound near = absurd (sound tt)
 
 -- so it is with what a call answers that tells it
 pub call_sound : {V : Type 0} (tell : V → Answer) (read : Result V ReadFail) (result : Result Answer Halt)
-    → result ≡ told_by tell read → IsSoundRead read
+    → result ≡ read_answer tell read → IsSoundRead read
     → (ReadFailed read → ⊥) → OnlyNoMemory result
 call_sound tell read result is sound near = subst (λ (r : Result Answer Halt). OnlyNoMemory r) (sym is) (sound_told tell read sound near)
 
 -- no damage is told where none was met,
 undamaged_told : {V : Type 0} (tell : V → Answer) (result : Result V ReadFail) → IsSoundRead result
-    → HaltsByDamage (told_by tell result) → ⊥
+    → HaltsByDamage (read_answer tell result) → ⊥
 undamaged_told tell (Ok value) sound halts = halts
 undamaged_told tell (Err unread.EmptyKey) sound halts = halts
 undamaged_told tell (Err unread.KeyTooLong) sound halts = halts
@@ -112,13 +112,13 @@ undamaged_told tell (Err (unread.Disk name)) sound halts = halts
 undamaged_told tell (Err (unread.Damaged name place)) sound halts = sound tt
 
 pub call_undamaged : {V : Type 0} (tell : V → Answer) (read : Result V ReadFail) (result : Result Answer Halt)
-    → result ≡ told_by tell read → IsSoundRead read
+    → result ≡ read_answer tell read → IsSoundRead read
     → HaltsByDamage result → ⊥
 call_undamaged tell read result is sound halts = undamaged_told tell read sound
     (subst (λ (r : Result Answer Halt). HaltsByDamage r) is halts)
 
 -- and a reader's fault where its reader failed
-failed_told : {V : Type 0} (tell : V → Answer) (result : Result V ReadFail) → HaltsByReader (told_by tell result) → ReadFailed result
+failed_told : {V : Type 0} (tell : V → Answer) (result : Result V ReadFail) → HaltsByReader (read_answer tell result) → ReadFailed result
 failed_told tell (Ok value) halts = halts
 failed_told tell (Err unread.EmptyKey) halts = halts
 failed_told tell (Err unread.KeyTooLong) halts = halts
@@ -127,7 +127,7 @@ failed_told tell (Err (unread.Disk name)) halts = tt
 failed_told tell (Err (unread.Damaged name place)) halts = absurd halts
 
 -- which it counted
-pub call_counted : {V R : Type 0} (tell : V → Answer) (read : Result V ReadFail) (result : Result Answer Halt) → result ≡ told_by tell read
+pub call_counted : {V R : Type 0} (tell : V → Answer) (read : Result V ReadFail) (result : Result Answer Halt) → result ≡ read_answer tell read
     → (faults : R → ℕ) (old new : R) → HasCause (faults old) (faults new) (ReadFailed read) → HaltsByReader result → ReaderFailed faults
 call_counted tell read result is faults old new cause halts =
     let rose = cause.rose (failed_told tell read (subst (λ (r : Result Answer Halt). HaltsByReader r) is halts)) in
@@ -160,7 +160,7 @@ module _ {H R : Type 0} (bytes : H → Option (List ℕ)) (seen : Option DiskSta
 
     pub view_read_makes : (key : List ℕ) (with_tag : Bool) (result : Result (Option Stored) ReadFail) → IsRefusedBy (refused_key key) result
         → ((k : History) → SeesAlone bytes view k → IfOk result (λ value. value ≡ value_at k view.number key))
-        → MakesStep bytes seen core behind s (reading with_tag key) (told_by (told_value with_tag) result)
+        → MakesStep bytes seen core behind s (reading with_tag key) (read_answer (value_answer with_tag) result)
     view_read_makes key with_tag result refused value = of result refused
         (let (b, there, sees, live, near, began) = its bytes seen core os s stands left name view taken in value h sees)
       where
@@ -170,9 +170,9 @@ module _ {H R : Type 0} (bytes : H → Option (List ℕ)) (seen : Option DiskSta
 
         of : (result : Result (Option Stored) ReadFail) → IsRefusedBy (refused_key key) result
             → IfOk result (λ value. value ≡ value_at h view.number key)
-            → MakesStep bytes seen core behind s (reading with_tag key) (told_by (told_value with_tag) result)
+            → MakesStep bytes seen core behind s (reading with_tag key) (read_answer (value_answer with_tag) result)
         of (Ok value) refused is =
-            only_makes bytes seen core os s stands behind (reading with_tag key) (told_value with_tag value)
+            only_makes bytes seen core os s stands behind (reading with_tag key) (value_answer with_tag value)
             (tell_of with_tag (value_in s.store.commits view.number key))
             (step_is ∙ ap (view_step key with_tag view.number) (key_fits key refused))
             (told_is with_tag value ∙ ap (λ (v : Option Stored). without_lengths (tell_of with_tag v))
@@ -201,12 +201,12 @@ module _ {H R : Type 0} (bytes : H → Option (List ℕ)) (seen : Option DiskSta
         → IfOk result (λ value. value ≡ value_under txn.writes k txn.number key))
         → ((k : History) (reads : List Read) → Sees bytes txn k reads
         → OnOk result (Sees bytes new k (noting.with_get txn.writes reads key (value_at k txn.number key))))
-        → MakesStep bytes seen core behind_it s (reading with_tag key) (told_by (told_value with_tag) result)
+        → MakesStep bytes seen core behind_it s (reading with_tag key) (read_answer (value_answer with_tag) result)
     txn_read_makes key with_tag result refused kept still value sees = of result refused kept still value sees
       where
         invalid : (why : KeyFail) → refused_key key ≡ Some why → NotesNothing txn new
             → ((k : History) (reads : List Read) → Sees bytes txn k reads → Sees bytes new k reads)
-            → MakesStep bytes seen core behind_it s (reading with_tag key) (told_by (told_value with_tag) (Err unread.EmptyKey))
+            → MakesStep bytes seen core behind_it s (reading with_tag key) (read_answer (value_answer with_tag) (Err unread.EmptyKey))
         invalid why refused same still =
             let (t, b, there, is, began) = itself bytes seen core os s stands left name txn taken in
             only_makes bytes seen core os s stands behind_it (reading with_tag key) answers.Invalid store_lines.Invalid
@@ -220,7 +220,7 @@ module _ {H R : Type 0} (bytes : H → Option (List ℕ)) (seen : Option DiskSta
             → IfOk result (λ value. value ≡ value_under txn.writes k txn.number key))
             → ((k : History) (reads : List Read) → Sees bytes txn k reads
             → OnOk result (Sees bytes new k (noting.with_get txn.writes reads key (value_at k txn.number key))))
-            → MakesStep bytes seen core behind_it s (reading with_tag key) (told_by (told_value with_tag) result)
+            → MakesStep bytes seen core behind_it s (reading with_tag key) (read_answer (value_answer with_tag) result)
         of (Ok found) refused kept still value sees =
             let (t, b, there, is, began) = itself bytes seen core os s stands left name txn taken in
             let so = reads_so bytes s.store stands.sound.proper.commits os left stands.names name txn new taken key

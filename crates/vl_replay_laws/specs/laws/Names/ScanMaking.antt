@@ -24,8 +24,8 @@ use Rattle.vl_txn.specs.Reads as noting
 use Rattle.vl_txn.specs.declared.key_fail.KeyFail.{KeyFail}
 use Rattle.vl_txn.specs.declared.key_fail.KeyFail.TheVariants.{EmptyKey, KeyTooLong}
 use Rattle.vl_replay_laws.specs.Replaying.{MakesStep, StandsIn}
-use Rattle.vl_script_model.specs.Sequential.{IsTold, State, history_of, without_lengths}
-use Rattle.vl_replay_laws.specs.Standing.{IsTaken, told_by}
+use Rattle.vl_script_model.specs.Sequential.{IsPrinted, State, history_of, without_lengths}
+use Rattle.vl_replay_laws.specs.Standing.{IsTaken, read_answer}
 use Rattle.vl_replay_laws.specs.declared.open.Open.{Open}
 use Rattle.vl_replay_laws.specs.declared.open.Thing.TheVariants.{Transaction, View}
 use Rattle.vl_script_model.specs.laws.Explained.{rows_are}
@@ -69,12 +69,12 @@ module _ {H R : Type 0} (bytes : H → Option (List ℕ)) (seen : Option DiskSta
   unfit why is = bounds_refused (nat_le (length low) max_key_bytes) (nat_le (length high) max_key_bytes) why is
 
   module _ {V : Type 0} (items : V → List Row) (tell : V → Answer)
-      (as_rows : (rows : V) → IsTold (tell rows) (store_lines.Rows (rows_told (items rows)))) where
+      (as_rows : (rows : V) → IsPrinted (tell rows) (store_lines.Rows (rows_told (items rows)))) where
     pub view_scan_makes : (view new : EngineView H R) → IsTaken os left name (Some (View view)) → OnlyReads view new
         → ((k : History) → SeesAlone bytes view k → SeesAlone bytes new k)
         → (result : Result V ReadFail) → IsRefusedBy (refused_bounds low high) result
         → ((k : History) → SeesAlone bytes view k → IfOk result (λ rows. items rows ≡ rows_under empty k view.number low high limit way))
-        → MakesStep bytes seen core (left ++ record { name = name; thing = View new } ∷ []) s scanning (told_by tell result)
+        → MakesStep bytes seen core (left ++ record { name = name; thing = View new } ∷ []) s scanning (read_answer tell result)
     view_scan_makes view new taken keeps still result refused rows_are_so = of result refused
         (let (b, there, sees, live, near, began) = its bytes seen core os s stands left name view taken in rows_are_so h sees)
       where
@@ -94,7 +94,7 @@ module _ {H R : Type 0} (bytes : H → Option (List ℕ)) (seen : Option DiskSta
 
         of : (result : Result V ReadFail) → IsRefusedBy (refused_bounds low high) result
             → IfOk result (λ rows. items rows ≡ rows_under empty h view.number low high limit way)
-            → MakesStep bytes seen core (left ++ record { name = name; thing = View new } ∷ []) s scanning (told_by tell result)
+            → MakesStep bytes seen core (left ++ record { name = name; thing = View new } ∷ []) s scanning (read_answer tell result)
         of (Ok rows) refused is =
             only_makes bytes seen core os s stands (left ++ record { name = name; thing = View new } ∷ []) scanning
             (tell rows) (store_lines.Rows (rows_told (scanned_rows s.store way low high limit [] view.number)))
@@ -114,7 +114,7 @@ module _ {H R : Type 0} (bytes : H → Option (List ℕ)) (seen : Option DiskSta
         → IfOk result (λ rows. items rows ≡ rows_under txn.writes k txn.number low high limit way))
         → ((k : History) (reads : List Read) → Sees bytes txn k reads
         → IfOk result (λ rows. Sees bytes new k (noting.with_scan reads (noting.scan_of low high limit way (items rows) txn.writes))))
-        → MakesStep bytes seen core (left ++ record { name = name; thing = Transaction new } ∷ []) s scanning (told_by tell result)
+        → MakesStep bytes seen core (left ++ record { name = name; thing = Transaction new } ∷ []) s scanning (read_answer tell result)
     txn_scan_makes txn new taken keeps result refused kept still rows_are_so sees = of result refused kept still rows_are_so sees
       where
         invalid : (why : KeyFail) → refused_bounds low high ≡ Some why → NotesNothing txn new
@@ -134,7 +134,7 @@ module _ {H R : Type 0} (bytes : H → Option (List ℕ)) (seen : Option DiskSta
             → IfOk result (λ rows. items rows ≡ rows_under txn.writes k txn.number low high limit way))
             → ((k : History) (reads : List Read) → Sees bytes txn k reads
             → IfOk result (λ rows. Sees bytes new k (noting.with_scan reads (noting.scan_of low high limit way (items rows) txn.writes))))
-            → MakesStep bytes seen core (left ++ record { name = name; thing = Transaction new } ∷ []) s scanning (told_by tell result)
+            → MakesStep bytes seen core (left ++ record { name = name; thing = Transaction new } ∷ []) s scanning (read_answer tell result)
         of (Ok rows) refused kept still rows_are_so sees =
             let (t, b, there, is, began) = itself bytes seen core os s stands left name txn taken in
             let answer = scan_answer bytes s.store stands.sound.proper.commits os left stands.names name txn new taken

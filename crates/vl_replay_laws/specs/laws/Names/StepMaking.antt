@@ -37,7 +37,7 @@ use Rattle.vl_script_model.specs.Halts.{HaltsByDisk, HaltsByRead}
 use Rattle.vl_engine_model.specs.declared.file_name.Retired.{Retired}
 use Rattle.vl_replay_laws.specs.Replaying.{MakesStep, StandsIn, state_by}
 use Rattle.vl_script_model.specs.Sequential.{State, files_behind, history_of, without_lengths}
-use Rattle.vl_replay_laws.specs.Standing.{ReadsNoTable, Stand, is_held_table, pins_at, told_step}
+use Rattle.vl_replay_laws.specs.Standing.{ReadsNoTable, Stand, is_held_table, pins_at, step_answer}
 use Rattle.vl_script_model.specs.declared.fails.Halt.{Halt}
 use Rattle.vl_replay_laws.specs.declared.open.Open.{Open}
 use Rattle.vl_script_model.specs.laws.Laws.{IsSound}
@@ -229,7 +229,7 @@ module _ {H R : Type 0} (bytes : H → Option (List ℕ)) (seen now : Option Dis
     pub step_makes : (result : Result (Option ℕ) StepFail)
         → Decides (Serves bytes now s.openable after) h l r otherwise (step_outcome result) effects
         → ((StepFailed result → ⊥) → after.back.state.next_log ≤ after.back.next_log)
-        → MakesStep bytes now after os s (step_by s.store r) (told_step result)
+        → MakesStep bytes now after os s (step_by s.store r) (step_answer result)
     step_makes (Ok (Some number)) decides within =
         let (same, there) = decides.answered (rulings.Stepped number) refl in
         (ap (λ (a : StepAnswer). without_lengths (step_told a)) same, step_stands there (within (λ failed. failed)))
@@ -245,7 +245,7 @@ module _ {H R : Type 0} (bytes : H → Option (List ℕ)) (seen now : Option Dis
 
     -- an engine that stands for what isn't halted isn't halted
     pub step_sound : (result : Result (Option ℕ) StepFail)
-        → Decides (Serves bytes now s.openable after) h l r otherwise (step_outcome result) effects → HaltsByRead (told_step result) → ⊥
+        → Decides (Serves bytes now s.openable after) h l r otherwise (step_outcome result) effects → HaltsByRead (step_answer result) → ⊥
     step_sound (Ok (Some number)) decides halts = halts
     step_sound (Ok None) decides halts = halts
     step_sound (Err (undone.Exhausted c)) decides halts = halts
@@ -274,7 +274,7 @@ may_go back may = by back.waiting.items may.waits
 
 -- ---- where the disk failed
 
-pub step_failed : (result : Result (Option ℕ) StepFail) → HaltsByDisk (told_step result) → StepFailed result
+pub step_failed : (result : Result (Option ℕ) StepFail) → HaltsByDisk (step_answer result) → StepFailed result
 step_failed (Ok (Some number)) halts = halts
 step_failed (Ok None) halts = halts
 step_failed (Err (undone.Exhausted c)) halts = halts
@@ -282,7 +282,7 @@ step_failed (Err undone.NoMemory) halts = halts
 step_failed (Err (undone.Disk name)) halts = halts
 step_failed (Err (undone.Halted name)) halts = absurd halts
 
-failed_step : (result : Result (Option ℕ) StepFail) → StepFailed result → HaltsByDisk (told_step result)
+failed_step : (result : Result (Option ℕ) StepFail) → StepFailed result → HaltsByDisk (step_answer result)
 failed_step (Ok (Some number)) failed = failed
 failed_step (Ok None) failed = failed
 failed_step (Err (undone.Exhausted c)) failed = failed
@@ -291,7 +291,7 @@ failed_step (Err (undone.Disk name)) failed = failed
 failed_step (Err (undone.Halted name)) failed = absurd failed
 
 -- in the words of the line's answer
-module _ (stepped : Result (Option ℕ) StepFail) (result : Result Answer Halt) (is : result ≡ told_step stepped) where
+module _ (stepped : Result (Option ℕ) StepFail) (result : Result Answer Halt) (is : result ≡ step_answer stepped) where
   pub failed_as : HaltsByDisk result → StepFailed stepped
   failed_as halts = step_failed stepped (subst (λ (r : Result Answer Halt). HaltsByDisk r) is halts)
 

@@ -22,7 +22,7 @@ use Rattle.vl_model.specs.History.{History}
 use Rattle.vl_script_model.specs.Halts.{HaltsByDisk, HaltsByRead}
 use Rattle.vl_replay_laws.specs.Replaying.{MakesStep, StandsIn, state_by}
 use Rattle.vl_script_model.specs.Sequential.{State, history_of, without_lengths}
-use Rattle.vl_replay_laws.specs.Standing.{ReadsNoTable, Stand, told_sweep}
+use Rattle.vl_replay_laws.specs.Standing.{ReadsNoTable, Stand, sweep_answer}
 use Rattle.vl_script_model.specs.declared.fails.Halt.{Halt}
 use Rattle.vl_replay_laws.specs.declared.open.Open.{Open}
 use Rattle.vl_script_model.specs.laws.Laws.{IsSound}
@@ -111,7 +111,7 @@ module _ {H R : Type 0} (bytes : H → Option (List ℕ)) (seen now : Option Dis
     -- by what the engine answered
     pub sweep_makes : (result : Result ℕ SweepFail)
         → Decides (Serves bytes now s.openable after) h l r otherwise (sweep_outcome result) effects
-        → after.back.state.next_log ≤ after.back.next_log → MakesStep bytes now after os s (sweep_by s.store r) (told_sweep result)
+        → after.back.state.next_log ≤ after.back.next_log → MakesStep bytes now after os s (sweep_by s.store r) (sweep_answer result)
     sweep_makes (Ok count) decides within =
         let (same, there) = decides.answered (rulings.Removed count) refl in
         (ap (λ (a : SweepAnswer). without_lengths (sweep_told a)) same, sweep_stands there within)
@@ -120,7 +120,7 @@ module _ {H R : Type 0} (bytes : H → Option (List ℕ)) (seen now : Option Dis
 
     -- an engine that stands for what isn't halted isn't halted
     pub sweep_sound : (result : Result ℕ SweepFail)
-        → Decides (Serves bytes now s.openable after) h l r otherwise (sweep_outcome result) effects → HaltsByRead (told_sweep result) → ⊥
+        → Decides (Serves bytes now s.openable after) h l r otherwise (sweep_outcome result) effects → HaltsByRead (sweep_answer result) → ⊥
     sweep_sound (Ok count) decides halts = halts
     sweep_sound (Err (unswept.Disk name)) decides halts = halts
     sweep_sound (Err (unswept.Halted name)) decides halts =
@@ -131,24 +131,24 @@ module _ {H R : Type 0} (bytes : H → Option (List ℕ)) (seen now : Option Dis
 module _ (leaves : History → Layout → Type 0) (h : History) (l : Layout) (r : Ruling SweepAnswer) (otherwise : Otherwise)
     (effects : Effects) where
   pub sweep_leaves : (result : Result ℕ SweepFail) → Decides leaves h l r otherwise (sweep_outcome result) effects
-      → OnOk (told_sweep result) (leaves r.history r.layout)
+      → OnOk (sweep_answer result) (leaves r.history r.layout)
   sweep_leaves (Ok count) decides = (decides.answered (rulings.Removed count) refl).1
   sweep_leaves (Err (unswept.Disk name)) decides = tt
   sweep_leaves (Err (unswept.Halted name)) decides = tt
 
 -- ---- where the disk failed
 
-pub sweep_failed : (result : Result ℕ SweepFail) → HaltsByDisk (told_sweep result) → SweepFailed result
+pub sweep_failed : (result : Result ℕ SweepFail) → HaltsByDisk (sweep_answer result) → SweepFailed result
 sweep_failed (Ok count) halts = halts
 sweep_failed (Err (unswept.Disk name)) halts = halts
 sweep_failed (Err (unswept.Halted name)) halts = absurd halts
 
-failed_sweep : (result : Result ℕ SweepFail) → SweepFailed result → HaltsByDisk (told_sweep result)
+failed_sweep : (result : Result ℕ SweepFail) → SweepFailed result → HaltsByDisk (sweep_answer result)
 failed_sweep (Ok count) failed = failed
 failed_sweep (Err (unswept.Disk name)) failed = failed
 failed_sweep (Err (unswept.Halted name)) failed = absurd failed
 
-pub sweep_cause : (swept : Result ℕ SweepFail) (result : Result Answer Halt) → result ≡ told_sweep swept → (before now : ℕ)
+pub sweep_cause : (swept : Result ℕ SweepFail) (result : Result Answer Halt) → result ≡ sweep_answer swept → (before now : ℕ)
     → HasCause before now (SweepFailed swept) → HasCause before now (HaltsByDisk result)
 sweep_cause swept result is before now cause = record {
   later = cause.later;

@@ -27,8 +27,8 @@ use Rattle.vl_model.specs.declared.change.Change.{Change}
 use Rattle.vl_txn.specs.Refusals.{IsWritten, fits_transaction, refused_write}
 use Rattle.vl_txn.specs.declared.set_fail.SetFail.{SetFail}
 use Rattle.vl_txn.specs.declared.set_fail.SetFail.TheVariants.{EmptyKey, KeyTooLong, NoMemory, TooBig, ValueTooLong}
-use Rattle.vl_script_model.specs.Sequential.{IsTold, without_lengths}
-use Rattle.vl_replay_laws.specs.Standing.{IsTaken, IsTransaction, ReadsNoTable, Stand, told_write}
+use Rattle.vl_script_model.specs.Sequential.{IsPrinted, without_lengths}
+use Rattle.vl_replay_laws.specs.Standing.{IsTaken, IsTransaction, ReadsNoTable, Stand, write_answer}
 use Rattle.vl_replay_laws.specs.declared.open.Open.{Open}
 use Rattle.vl_replay_laws.specs.declared.open.Thing.TheVariants.{Transaction}
 use Rattle.vl_replay_laws.specs.laws.Names.Reading.{named_again, put_back, stand_alike}
@@ -105,8 +105,8 @@ module _ {H R : Type 0} (bytes : H → Option (List ℕ)) (s : store.State) (os 
 
   -- how it is told, and what the names stand for then
   pub record WritesSo (result : Result ⊤ SetFail) : Type 0 where
-    pub told : IfOk (told_write result) (λ answer. IsTold answer writing.answer)
-    pub names : OnOk (told_write result) (Stand bytes behind writing.state.things (history_in s.commits) s.layout)
+    pub told : IfOk (write_answer result) (λ answer. IsPrinted answer writing.answer)
+    pub names : OnOk (write_answer result) (Stand bytes behind writing.state.things (history_in s.commits) s.layout)
 
   step_is : writing ≡ step_where s name key change t b (refused_write txn.writes key change)
   step_is = ap (write_by s name key change) there ∙ write_is s name key change t b txn.writes (ap (λ (u : ATxn). u.writes) is.same)

@@ -33,7 +33,7 @@ use Rattle.vl_version.specs.Bases.{Fits}
 use Rattle.vl_version.specs.declared.base.Base.{Base}
 use Rattle.vl_replay_laws.specs.Passing.{IsOpenPass, IsPassing, Passes}
 use Rattle.vl_replay_laws.specs.Replaying.{MakesStep, StandsIn, state_by}
-use Rattle.vl_script_model.specs.Sequential.{IsTold, State, history_of}
+use Rattle.vl_script_model.specs.Sequential.{IsPrinted, State, history_of}
 use Rattle.vl_replay_laws.specs.Standing.{Corresponds, open_in}
 use Rattle.vl_replay_laws.specs.declared.open.Open.{Open}
 use Rattle.vl_replay_laws.specs.declared.open.Thing.{Thing as Reading}
@@ -176,7 +176,7 @@ module _ {H R : Type 0} (bytes : H → Option (List ℕ)) (seen : Option DiskSta
     layout_is (Some b) = refl
 
     abbrev pub told_so : (b : Option (List Candidate)) → Answer → Type 0
-    told_so b told = IsTold told (its_step p b).answer
+    told_so b told = IsPrinted told (its_step p b).answer
 
     stands_then : (b : Option (List Candidate)) → IsSound (state_by s (its_step p b))
         → StandsIn bytes seen core os (state_by s (its_step p b))

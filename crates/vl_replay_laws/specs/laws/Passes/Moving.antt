@@ -38,7 +38,7 @@ use Rattle.vl_model.specs.declared.log_frame.Moved.{Moved}
 use Rattle.vl_version.specs.declared.base.Base.{Base}
 use Rattle.vl_replay_laws.specs.Passing.{IsPassing, Passes}
 use Rattle.vl_replay_laws.specs.Replaying.{MakesStep, StandsIn, state_by}
-use Rattle.vl_script_model.specs.Sequential.{IsTold, State, history_of}
+use Rattle.vl_script_model.specs.Sequential.{IsPrinted, State, history_of}
 use Rattle.vl_replay_laws.specs.Standing.{open_in}
 use Rattle.vl_replay_laws.specs.declared.open.Open.{Open}
 use Rattle.vl_replay_laws.specs.declared.passing.Passing.{Passing}
@@ -273,7 +273,7 @@ module _ {H S : Type 0} (bytes : H → Option (List ℕ)) (seen now : Option Dis
           },
         )
 
-    pub refused_makes : (a : MoveAnswer) (told : Answer) → IsRefusal l h a → IsTold told (refused_told a) → (o : Outcome MoveAnswer)
+    pub refused_makes : (a : MoveAnswer) (told : Answer) → IsRefusal l h a → IsPrinted told (refused_told a) → (o : Outcome MoveAnswer)
         → o ≡ Answered a → Decides (Serves bytes now s.openable after) h l r otherwise o effects
         → MakesStep bytes now after os s moving (Ok told)
     refused_makes a told refused is o came decided =

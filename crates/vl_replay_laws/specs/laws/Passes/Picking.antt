@@ -27,7 +27,7 @@ use Rattle.vl_model.specs.History.{History}
 use Rattle.vl_version.specs.declared.base.Base.{Base}
 use Rattle.vl_replay_laws.specs.Passing.{IsOpenPass, Passes}
 use Rattle.vl_replay_laws.specs.Replaying.{MakesStep, StandsIn, state_by}
-use Rattle.vl_script_model.specs.Sequential.{IsTold, State, history_of}
+use Rattle.vl_script_model.specs.Sequential.{IsPrinted, State, history_of}
 use Rattle.vl_replay_laws.specs.Standing.{open_in}
 use Rattle.vl_replay_laws.specs.declared.open.Open.{Open}
 use Rattle.vl_replay_laws.specs.declared.passing.Passing.{Passing}
@@ -219,7 +219,7 @@ module _ {H S : Type 0} (bytes : H → Option (List ℕ)) (told : Option DiskSta
       by pick.NoRewrite answer same = ap (λ (x : store_lines.Answer). only x s.store) (sym same)
 
   module _ (a : PickAnswer) (answer : store_lines.Answer) (refusal : IsRefusal a answer) (is : a ≡ r.answer) where
-    pub refused_makes : (told_answer : Answer) → IsTold told_answer answer → Serves bytes told s.openable after h l
+    pub refused_makes : (told_answer : Answer) → IsPrinted told_answer answer → Serves bytes told s.openable after h l
         → MakesStep bytes told after os s picking (Ok told_answer)
     refused_makes told_answer same there =
         kept_makes bytes told told before after os s stands back os picking told_answer answer (refused_step a answer refusal is) same there

@@ -18,7 +18,7 @@ use Rattle.vl_model.specs.History.{History}
 use Rattle.vl_seglog.specs.declared.sealed.SealedLog.{SealedLog}
 use Rattle.vl_version.specs.declared.base.Base.{Base}
 use Rattle.vl_replay_laws.specs.Passing.{Passes}
-use Rattle.vl_replay_laws.specs.Standing.{told_step}
+use Rattle.vl_replay_laws.specs.Standing.{step_answer}
 use Rattle.vl_script_model.specs.declared.fails.Halt.{Halt}
 use Rattle.vl_replay_laws.specs.declared.passing.Passing.{Passing}
 use Rattle.vl_script.specs.declared.answer.Answer.{Answer}
@@ -28,7 +28,7 @@ use Rattle.vl_replay_laws.specs.laws.Passes.Standing.{passes_on}
 module _ (leaves : History → Layout → Type 0) (h : History) (l : Layout) (r : Ruling StepAnswer) (otherwise : Otherwise)
     (effects : Effects) where
   pub step_leaves : (result : Result (Option ℕ) StepFail) → Decides leaves h l r otherwise (step_outcome result) effects
-      → OnOk (told_step result) (leaves r.history r.layout)
+      → OnOk (step_answer result) (leaves r.history r.layout)
   step_leaves (Ok (Some number)) decides = (decides.answered (rulings.Stepped number) refl).1
   step_leaves (Ok None) decides = (decides.answered rulings.Idle refl).1
   step_leaves (Err (undone.Exhausted c)) decides = (decides.answered (rulings.Exhausted c) refl).1

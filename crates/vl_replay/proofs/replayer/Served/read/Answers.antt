@@ -3,7 +3,7 @@ use Rattle.std.proofs.Common.{◌∙◌, ℕ, List, refl, ap, sym, arith}
 use Rattle.vl_engine_model.specs.Store.Reading.{get_by}
 use Rattle.vl_engine_model.specs.Store.Things.{thing_of}
 use Rattle.vl_script_model.specs.Sequential.{history_of}
-use Rattle.vl_replay_laws.specs.Standing.{tell_of, told_value}
+use Rattle.vl_replay_laws.specs.Standing.{tell_of, value_answer}
 use Rattle.vl_replay_laws.specs.declared.open.Thing.TheVariants.{Transaction, View}
 use Rattle.vl_replay_laws.specs.laws.Names.Lookups.{place_there, without_open}
 use Rattle.vl_replay_laws.specs.laws.Names.Making.{its, itself}
@@ -56,7 +56,7 @@ returns-in-View-clause-near g c s stands untabled =
     c.in-Some.at (sym c.place.ensures ∙ c.in-Some.is) c.index_mut.result.now c.index_mut.ensures.value _ c.in-View.is in
     let (b, there, sees, live, near, began) = its bytes seen core os s stands (without_open c.args.name os) c.args.name
     c.in-View.view taken in
-    call_sound (told_value c.args.with_tag) c.get.result c.read_answer.result c.read_answer.ensures (c.get.ensures.sound (history_of s) sees)
+    call_sound (value_answer c.args.with_tag) c.get.result c.read_answer.result c.read_answer.ensures (c.get.ensures.sound (history_of s) sees)
     (c.get.ensures.near (near (reads_none c.in-View.view.ticket s.store.layout untabled)))
 
 pub returns-in-View-clause-undamaged : goal.returns-in-View-clause-undamaged
@@ -70,11 +70,11 @@ returns-in-View-clause-undamaged g c s stands =
     c.in-Some.at (sym c.place.ensures ∙ c.in-Some.is) c.index_mut.result.now c.index_mut.ensures.value _ c.in-View.is in
     let (b, there, sees, live, near, began) = its bytes seen core os s stands (without_open c.args.name os) c.args.name
     c.in-View.view taken in
-    call_undamaged (told_value c.args.with_tag) c.get.result c.read_answer.result c.read_answer.ensures (c.get.ensures.sound (history_of s) sees)
+    call_undamaged (value_answer c.args.with_tag) c.get.result c.read_answer.result c.read_answer.ensures (c.get.ensures.sound (history_of s) sees)
 
 pub returns-in-View-clause-fault : goal.returns-in-View-clause-fault
 returns-in-View-clause-fault g c =
-    call_counted (told_value c.args.with_tag) c.get.result c.read_answer.result c.read_answer.ensures g.D.Reader.Reader.faults _ _ c.get.ensures.cause
+    call_counted (value_answer c.args.with_tag) c.get.result c.read_answer.result c.read_answer.ensures g.D.Reader.Reader.faults _ _ c.get.ensures.cause
 
 pub returns-clause-makes : goal.returns-clause-makes
 returns-clause-makes g c s stands =
@@ -109,7 +109,7 @@ returns-clause-near g c s stands untabled =
     c.in-Some.at (sym c.place.ensures ∙ c.in-Some.is) c.index_mut.result.now c.index_mut.ensures.value _ c.in-Transaction.is in
     let (t, b, there, is, began) = itself bytes seen core os s stands (without_open c.args.name os) c.args.name
     c.in-Transaction.txn taken in
-    call_sound (told_value c.args.with_tag) c.get-in-Transaction.result c.read_answer-in-Transaction.result
+    call_sound (value_answer c.args.with_tag) c.get-in-Transaction.result c.read_answer-in-Transaction.result
     c.read_answer-in-Transaction.ensures (c.get-in-Transaction.ensures.sound (history_of s) t.reads is.sees)
     (c.get-in-Transaction.ensures.near (is.near (reads_none c.in-Transaction.txn.ticket s.store.layout untabled)))
 
@@ -124,10 +124,10 @@ returns-clause-undamaged g c s stands =
     c.in-Some.at (sym c.place.ensures ∙ c.in-Some.is) c.index_mut.result.now c.index_mut.ensures.value _ c.in-Transaction.is in
     let (t, b, there, is, began) = itself bytes seen core os s stands (without_open c.args.name os) c.args.name
     c.in-Transaction.txn taken in
-    call_undamaged (told_value c.args.with_tag) c.get-in-Transaction.result c.read_answer-in-Transaction.result c.read_answer-in-Transaction.ensures
+    call_undamaged (value_answer c.args.with_tag) c.get-in-Transaction.result c.read_answer-in-Transaction.result c.read_answer-in-Transaction.ensures
     (c.get-in-Transaction.ensures.sound (history_of s) t.reads is.sees)
 
 pub returns-clause-fault : goal.returns-clause-fault
 returns-clause-fault g c =
-    call_counted (told_value c.args.with_tag) c.get-in-Transaction.result c.read_answer-in-Transaction.result
+    call_counted (value_answer c.args.with_tag) c.get-in-Transaction.result c.read_answer-in-Transaction.result
     c.read_answer-in-Transaction.ensures g.D.Reader.Reader.faults _ _ c.get-in-Transaction.ensures.cause

@@ -4,7 +4,7 @@ use Rattle.std.specs.Prelude.{map}
 use Rattle.vl_engine_model.specs.Rulings.Stats.{stats_ruling}
 use Rattle.vl_engine_model.specs.Store.Dispatch.{step_of}
 use Rattle.vl_engine_model.specs.Store.Lines as store_lines
-use Rattle.vl_script_model.specs.Sequential.{history_of, stat_told}
+use Rattle.vl_script_model.specs.Sequential.{history_of, stat_of_line}
 use Rattle.vl_script.specs.declared.answer.Answer.TheVariants as answers
 use Rattle.vl_script.specs.declared.answer.SegmentLine.{SegmentLine}
 use Rattle.vl_replay_laws.specs.laws.Names.Making.{only_makes}
@@ -20,5 +20,5 @@ returns-clause-makes g c s passing stands =
     let l = s.store.layout in
     only_makes bytes (g.D.Watched.told c.args.served.now.engine.disk) core os s stands.serves os (step_of s.store store_lines.Stats)
     (answers.Segments c.in_ok-segments.segments) (store_lines.Segments (stats_ruling l h).answer) refl
-    (ap store_lines.Segments (ap (λ (xs : List SegmentLine). map stat_told xs) c.in_ok-segments.ensures ∙ told_back c.deref.result.now
+    (ap store_lines.Segments (ap (λ (xs : List SegmentLine). map stat_of_line xs) c.in_ok-segments.ensures ∙ told_back c.deref.result.now
     ∙ c.deref.ensures.value ∙ c.in_ok-stats.ensures h l stands.serves.engine stands.passes.collects)) stands.serves.names
