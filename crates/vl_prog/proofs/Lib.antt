@@ -1,3 +1,5 @@
-pub mod Driven
+pub mod Asked
 pub mod NotBegun
+pub mod Printed
+pub mod Ranges
 pub mod Serving

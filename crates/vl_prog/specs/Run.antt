@@ -6,15 +6,15 @@ use Rattle.vl_disk.specs.declared.watched.Watched.{Ghosts}
 use Rattle.vl_script.specs.Words.{command_of}
 use Rattle.vl_script.specs.declared.words.Command.{Command}
 use Rattle.vl_io.specs.declared.sink.Sink as sink
-use Rattle.vl_script_model.specs.Endings.{status_of}
+use Rattle.vl_script_model.specs.Endings.{no_memory_line, status_of}
 use Rattle.vl_script_model.specs.Failing.{ReaderFailed}
 use Rattle.vl_script_model.specs.Reading.{Streams, ReadsInput}
 use Rattle.vl_script_model.specs.Runs.{Outside}
 use Rattle.vl_script_model.specs.Start.{AnswersInput, EndsAtTables}
-use Rattle.vl_script_model.specs.Steps.{FinishesBy, EndsWithoutOpening}
+use Rattle.vl_script_model.specs.Steps.{EndsWithoutOpening, Finishes, FinishesBy}
 use Rattle.vl_script_model.specs.Trial.{EndsTrial, Trial}
 use Rattle.vl_script_model.specs.declared.ending.Ending.{Ending}
-use Rattle.vl_script_model.specs.declared.ending.Ending.TheVariants.{Damaged, ReaderFault, Stopped}
+use Rattle.vl_script_model.specs.declared.ending.Ending.TheVariants.{Complete, Damaged, NoMemory, ReaderFault, Stopped}
 use Rattle.vl_script_model.specs.declared.fails.Refusal.{Refusal}
 
 -- the words are plain, and ask for this
@@ -73,3 +73,13 @@ HasCountedFault g faults disk disk' = Rose (g.faults disk) (g.faults disk') ⊎ 
 abbrev pub StatusOfTrial : Trial → (held held' left : Option (List ℕ)) → (status : ℕ) → Type 0
 StatusOfTrial t held held' left status =
     (ending : Ending) × (status ≡ status_of ending) × EndsTrial t held held' left ending
+
+-- Lines that tell this were printed, and nothing else; or memory ran out, and the line of that was. Either may be cut by the sink.
+abbrev pub PrintsLines : {K : Type 0} → sink.Ghosts K → (Tells : List ℕ → Type 0) → (old new : K) → Ending → Type 0
+PrintsLines k Tells old new result =
+    ((text : List ℕ) × Tells text × Finishes k old new text Complete result)
+    ⊎ Finishes k old new no_memory_line NoMemory result
+
+-- Such a run has the status of its ending.
+abbrev pub StatusOfLines : {K : Type 0} → sink.Ghosts K → (Tells : List ℕ → Type 0) → (old new : K) → (status : ℕ) → Type 0
+StatusOfLines k Tells old new status = (ending : Ending) × (status ≡ status_of ending) × PrintsLines k Tells old new ending

@@ -7,7 +7,7 @@ ghost use Rattle.vl_script_model.specs.Endings.{CountsFaultsOf, TheSink};
 use std::alloc::Global;
 use std::sync::Wait;
 use std::thread::Threads;
-use vl_drive::{Driven, Shops, drive_store};
+use vl_drive::{Shops, drive_store};
 use vl_io::Sink;
 use vl_replay::{NO_MEMORY, finish};
 use vl_script::driven_text;
@@ -44,15 +44,9 @@ fn text_of<T: Shops, R: Threads + Wait + Sync>(
     requires clients { (1 ≤ clients) × (clients ≤ 16) }
     ensures { ForSome result (λ text. TellsDriven clients txns seed text.items) }
 {
-    let Ok(
-        Driven {
-            commits,
-            conflicts,
-            total,
-        },
-    ) = drive_store::<T, R>(rt, alloc, clients, txns, seed)
-    else {
+    // What the store holds in the end isn't printed: the counts and the sum are those of its steps.
+    let Ok((driven, _closed)) = drive_store::<T, R>(rt, alloc, clients, txns, seed) else {
         return None;
     };
-    driven_text(alloc, commits, conflicts, total).ok()
+    driven_text(alloc, driven.commits, driven.conflicts, driven.total).ok()
 }

@@ -21,12 +21,14 @@ ghost use Rattle.vl_script_model.specs.Trial.{begun};
 ghost use Rattle.vl_script_model.specs.Trying.{trial_of};
 ghost use Rattle.vl_mem.specs.declared.outcome.Outcome.{Outcome};
 ghost use Rattle.vl_replay.specs.Benchmark.{StatusOfBench, summary_of};
+ghost use Rattle.vl_prog.specs.Counting.{StatusOfIds};
 ghost use Rattle.vl_prog.specs.Driving.{StatusOfDrive};
 ghost use Rattle.vl_prog.specs.Run.{AreNotPlain, AskFor, EndsBy, FailedAtTables, FailedToRead, HasCountedFault};
 ghost use Rattle.vl_prog.specs.Run.{MetDamage, StatusOfAnswers, StatusOfTrial, StatusWithoutOpening, TellsOfInput};
 ghost use Rattle.vl_script.specs.declared.words.Command.{Command as Commands};
 
 use crate::clients::drive;
+use crate::ids;
 use std::alloc::Global;
 use std::sync::Wait;
 use std::thread::Threads;
@@ -83,6 +85,12 @@ pub fn run<T: Shops, R: Threads + Wait + Sync, S: Source, K: Sink, D: Disk>(
     ensures drives { (clients txns seed : ℕ) → AskFor (map string_bytes words.now) (Command.Drive clients txns seed)
         → (source.new ≡ source.old) × (result.disk ≡ disk)
         × StatusOfDrive K.Sink clients txns seed sink.old sink.new result.status }
+
+    // Where they ask for numbers, it is printed how many were given, from how many leases, and which comes next. Source and disk
+    // are left untouched.
+    ensures counts { (clients count lease : ℕ) → AskFor (map string_bytes words.now) (Command.Ids clients count lease)
+        → (source.new ≡ source.old) × (result.disk ≡ disk)
+        × StatusOfIds K.Sink clients count lease sink.old sink.new result.status }
 
     // What was read is explained by the history at the reader's own number, and that grows by accepted commits alone. This is a law
     // of the sequential store's answers, and says nothing of the body. It stands here so that this contract has the whole headline.
@@ -170,6 +178,10 @@ pub fn run<T: Shops, R: Threads + Wait + Sync, S: Source, K: Sink, D: Disk>(
         }
         Some(Command::Drive(clients, txns, seed)) => {
             let status = drive::<T, R, K>(rt, alloc, sink, clients, txns, seed).status();
+            CommandEnded { status, disk }
+        }
+        Some(Command::Ids(clients, count, lease)) => {
+            let status = ids::count::<T, R, K>(rt, alloc, sink, clients, count, lease).status();
             CommandEnded { status, disk }
         }
         None => {

@@ -4,6 +4,7 @@
 
 mod clients;
 mod command_line;
+mod ids;
 mod process;
 
 use crate::process::{Served, process_words, serve};

@@ -1,4 +1,4 @@
-use Rattle.std.proofs.Common.{◌∙◌, inl, inr, List, ℕ, refl, subst}
+use Rattle.std.proofs.Common.{inl, inr, List, ℕ, refl, subst}
 use Rattle.vl_script_model.specs.Steps.{Finishes}
 use Rattle.vl_script_model.specs.declared.ending.Ending.TheVariants.{Complete, NoMemory}
 use Rattle.vl_script_model.specs.laws.Ends.{finish_counts}

@@ -1,10 +1,10 @@
-use Rattle.std.proofs.Common.{◌≡◌, ◌≢◌, ◌<◌, ◌≤◌, ⊎_elim, inl, inr, ℕ, Option, None, Some, refl, sym, ap, subst, ◌∙◌, arith}
+use Rattle.std.proofs.Common.{◌≡◌, ◌≢◌, ◌<◌, ◌≤◌, ⊎_elim, inl, inr, ℕ, Some, refl, sym, ap, subst, ◌∙◌, arith}
+use Rattle.std.specs.Prelude.{map, string_bytes}
 use Rattle.vl_mem.specs.declared.outcome.Outcome.{Outcome}
 use Rattle.vl_engine_model.specs.Store.Commits.{AreProper}
 use Rattle.vl_script_model.specs.Trial.{EndsTrial, begun}
 use Rattle.vl_script_model.specs.Trying.{trial_of}
-use Rattle.vl_script.specs.declared.words.Command.{Command}
-use Rattle.vl_script.specs.declared.words.Command.TheVariants.{Bench, Drive, Replay, Trial}
+use Rattle.vl_script.specs.declared.words.Command.TheVariants.{Bench, Drive, Ids, Replay, Trial}
 use Rattle.vl_script.specs.Script.{lines_of}
 use Rattle.vl_script_model.specs.Endings.{CountsFaultsOf, TheDisk, TheSource, TheSink, status_of, usage_line}
 use Rattle.vl_disk.specs.Faults.{Rose}
@@ -19,92 +19,21 @@ use Rattle.vl_script_model.specs.laws.WordLaws.{disk_steady, rose_or_unread, sou
 use Rattle.vl_script_model.specs.laws.WordLaws.{rose_by, steady_by, refused_status, refused_rose, refused_steady}
 use Rattle.vl_script_model.specs.declared.ending.Ending.{Ending}
 use Rattle.vl_replay.specs.Benchmark.{PrintsSummary, summary_of}
-use Rattle.vl_prog.specs.Driving.{PrintsDriven}
+use Rattle.vl_prog.specs.Counting.{PrintsCounted, TellsCounted}
+use Rattle.vl_prog.specs.Driving.{PrintsDriven, TellsDriven}
 use Rattle.vl_replay.proofs.Benchmarks.{bench_ends}
-use Rattle.vl_prog.proofs.Driven.{drive_ends}
+use Rattle.vl_prog.proofs.Asked.{is_asked, no_bench, no_bench_counted, no_bench_driven, no_bench_tried, no_drive, no_drive_benched}
+use Rattle.vl_prog.proofs.Asked.{no_drive_counted, no_drive_tried, no_ids, no_ids_benched, no_ids_driven, no_ids_tried, no_replay}
+use Rattle.vl_prog.proofs.Asked.{no_replay_counted, no_replay_driven, no_trial, no_trial_asked, no_trial_counted, no_trial_driven}
+use Rattle.vl_prog.proofs.Asked.{none_asked, one_asked, other_asked, same_bench, same_drive, same_ids, same_trial}
 use Rattle.vl_prog.proofs.NotBegun.{answers_nothing, reads_nothing, reported, tries_nothing}
+use Rattle.vl_prog.proofs.Printed.{lines_end}
+use Rattle.vl_prog.proofs.Ranges.{in_range}
 use Rattle.vl_prog.proofs.command_line.run.Goals as goal
 
 -- the store on an empty disk has no commits
 empty_proper : AreProper begun.store.commits
 empty_proper = record { numbers = tt; base = tt; commits = tt }
-
--- what the words ask for
-asks : {o p : Option Command} {command : Command} → o ≡ p → o ≡ Some command → p ≡ Some command
-asks is found = sym is ∙ found
-
-none_asked : {o p : Option Command} (command : Command) → o ≡ p → o ≡ None → p ≡ Some command → ⊥
-none_asked command is none found = some_none command (sym found ∙ sym is ∙ none)
-  where
-    some_none : (c : Command) → Some c ≡ None → ⊥
-    some_none c e = cc
-
-is_asked : {o p : Option Command} (command : Command) → o ≡ p → o ≡ Some command → p ≡ None → ⊥
-is_asked command is found none = none_asked command (sym is) none found
-
-other_asked : {o p : Option Command} (stop : ℕ) (outcome : Outcome) → o ≡ p → o ≡ Some (Trial stop outcome) → p ≡ Some Replay → ⊥
-other_asked stop outcome is found other = apart stop outcome (sym found ∙ is ∙ other)
-  where
-    apart : (n : ℕ) (o : Outcome) → Some (Trial n o) ≡ Some Replay → ⊥
-    apart n o e = cc
-
-no_trial : {o p : Option Command} (stop : ℕ) (outcome : Outcome) → o ≡ p → o ≡ Some Replay → p ≡ Some (Trial stop outcome) → ⊥
-no_trial stop outcome is found other = apart stop outcome (sym found ∙ is ∙ other)
-  where
-    apart : (n : ℕ) (o : Outcome) → Some Replay ≡ Some (Trial n o) → ⊥
-    apart n o e = cc
-
-same_trial : {o p : Option Command} (stop n : ℕ) (outcome other : Outcome) → o ≡ p → o ≡ Some (Trial n other)
-    → p ≡ Some (Trial stop outcome)
-    → (n ≡ stop) × (other ≡ outcome)
-same_trial stop n outcome other is found asked = apart n stop other outcome (sym found ∙ is ∙ asked)
-  where
-    apart : (a b : ℕ) (o p : Outcome) → Some (Trial a o) ≡ Some (Trial b p) → (a ≡ b) × (o ≡ p)
-    apart a b o p e = (cc, cc)
-
--- the words ask for one command
-one_asked : {o p : Option Command} (command other : Command) → o ≡ p → o ≡ Some command → p ≡ Some other → command ≡ other
-one_asked command other is found asked = of command other (sym found ∙ is ∙ asked)
-  where
-    of : (a b : Command) → Some a ≡ Some b → a ≡ b
-    of a b e = cc
-
-no_replay : (seed count : ℕ) → Bench seed count ≡ Replay → ⊥
-no_replay seed count e = cc
-
-no_trial_asked : (seed count stop : ℕ) (outcome : Outcome) → Bench seed count ≡ Trial stop outcome → ⊥
-no_trial_asked seed count stop outcome e = cc
-
-no_bench : (seed count : ℕ) → Replay ≡ Bench seed count → ⊥
-no_bench seed count e = cc
-
-no_bench_tried : (stop seed count : ℕ) (outcome : Outcome) → Trial stop outcome ≡ Bench seed count → ⊥
-no_bench_tried stop seed count outcome e = cc
-
-same_bench : (seed count other_seed other_count : ℕ) → Bench seed count ≡ Bench other_seed other_count
-    → (seed ≡ other_seed) × (count ≡ other_count)
-same_bench seed count other_seed other_count e = (cc, cc)
-
-no_drive : (clients txns seed : ℕ) → Replay ≡ Drive clients txns seed → ⊥
-no_drive clients txns seed e = cc
-
-no_drive_tried : (stop clients txns seed : ℕ) (outcome : Outcome) → Trial stop outcome ≡ Drive clients txns seed → ⊥
-no_drive_tried stop clients txns seed outcome e = cc
-
-no_drive_benched : (one count clients txns seed : ℕ) → Bench one count ≡ Drive clients txns seed → ⊥
-no_drive_benched one count clients txns seed e = cc
-
-no_replay_driven : (clients txns seed : ℕ) → Drive clients txns seed ≡ Replay → ⊥
-no_replay_driven clients txns seed e = cc
-
-no_trial_driven : (clients txns seed stop : ℕ) (outcome : Outcome) → Drive clients txns seed ≡ Trial stop outcome → ⊥
-no_trial_driven clients txns seed stop outcome e = cc
-
-no_bench_driven : (one count clients txns seed : ℕ) → Drive clients txns seed ≡ Bench one count → ⊥
-no_bench_driven one count clients txns seed e = cc
-
-same_drive : (clients txns seed n m s : ℕ) → Drive clients txns seed ≡ Drive n m s → (clients ≡ n) × (txns ≡ m) × (seed ≡ s)
-same_drive clients txns seed n m s e = (cc, cc, cc)
 
 below : (n m : ℕ) → n < 6 → 6 ≤ m → n ≢ m
 below n m less le e = omega arith
@@ -119,6 +48,12 @@ pub returns-in-Some-Replay-clause-drives : goal.returns-in-Some-Replay-clause-dr
 returns-in-Some-Replay-clause-drives g c clients txns seed asked = absurd
     (no_drive clients txns seed
     (one_asked Replay (Drive clients txns seed) c.in-Ok.ensures.command
+    (c.in-Some-Replay.is ∙ ap Some (rw c.in-Some-Replay.is at c.in-Some-Replay.field-0-is)) asked))
+
+pub returns-in-Some-Replay-clause-counts : goal.returns-in-Some-Replay-clause-counts
+returns-in-Some-Replay-clause-counts g c clients count lease asked = absurd
+    (no_ids clients count lease
+    (one_asked Replay (Ids clients count lease) c.in-Ok.ensures.command
     (c.in-Some-Replay.is ∙ ap Some (rw c.in-Some-Replay.is at c.in-Some-Replay.field-0-is)) asked))
 
 pub returns-in-Some-Replay-clause-explained : goal.returns-in-Some-Replay-clause-explained
@@ -356,6 +291,12 @@ returns-in-Some-Trial-clause-drives g c clients txns seed asked = absurd
     (one_asked (Trial c.in-Some-Trial.stop c.in-Some-Trial.outcome) (Drive clients txns seed) c.in-Ok.ensures.command
     (c.in-Some-Trial.is ∙ ap Some (rw c.in-Some-Trial.is at c.in-Some-Trial.field-0-is)) asked))
 
+pub returns-in-Some-Trial-clause-counts : goal.returns-in-Some-Trial-clause-counts
+returns-in-Some-Trial-clause-counts g c clients count lease asked = absurd
+    (no_ids_tried c.in-Some-Trial.stop clients count lease c.in-Some-Trial.outcome
+    (one_asked (Trial c.in-Some-Trial.stop c.in-Some-Trial.outcome) (Ids clients count lease) c.in-Ok.ensures.command
+    (c.in-Some-Trial.is ∙ ap Some (rw c.in-Some-Trial.is at c.in-Some-Trial.field-0-is)) asked))
+
 pub returns-in-Some-Trial-clause-explained : goal.returns-in-Some-Trial-clause-explained
 returns-in-Some-Trial-clause-explained g c s input starts = all_explained
     c.reads_without_conflict_stay_explained.ensures g.D.Watched c.args.disk s (lines_of input) starts
@@ -456,6 +397,12 @@ returns-in-Some-Bench-clause-drives g c clients txns seed asked = absurd
     (one_asked (Bench c.in-Some-Bench.seed c.in-Some-Bench.count) (Drive clients txns seed) c.in-Ok.ensures.command
     (c.in-Some-Bench.is ∙ ap Some (rw c.in-Some-Bench.is at c.in-Some-Bench.field-0-is)) asked))
 
+pub returns-in-Some-Bench-clause-counts : goal.returns-in-Some-Bench-clause-counts
+returns-in-Some-Bench-clause-counts g c clients count lease asked = absurd
+    (no_ids_benched c.in-Some-Bench.seed c.in-Some-Bench.count clients count lease
+    (one_asked (Bench c.in-Some-Bench.seed c.in-Some-Bench.count) (Ids clients count lease) c.in-Ok.ensures.command
+    (c.in-Some-Bench.is ∙ ap Some (rw c.in-Some-Bench.is at c.in-Some-Bench.field-0-is)) asked))
+
 pub returns-in-Some-Bench-clause-answers : goal.returns-in-Some-Bench-clause-answers
 returns-in-Some-Bench-clause-answers g c asked = absurd
     (no_replay c.in-Some-Bench.seed c.in-Some-Bench.count
@@ -549,6 +496,11 @@ returns-in-Some-Bench-clause-input g c asked = absurd
 
 -- ---- clients
 
+pub drive-requires-clause-clients : goal.drive-requires-clause-clients
+drive-requires-clause-clients g c κs within =
+    in_range (map string_bytes c.args.words.now) (Drive c.in-Some-Drive.clients c.in-Some-Drive.txns c.in-Some-Drive.seed)
+    (sym c.in-Ok.ensures.command ∙ c.in-Some-Drive.is ∙ ap Some (rw c.in-Some-Drive.is at c.in-Some-Drive.field-0-is))
+
 pub returns-in-Some-Drive-clause-drives : goal.returns-in-Some-Drive-clause-drives
 returns-in-Some-Drive-clause-drives g c clients txns seed asked =
     let same = same_drive c.in-Some-Drive.clients c.in-Some-Drive.txns c.in-Some-Drive.seed clients txns seed
@@ -565,6 +517,12 @@ returns-in-Some-Drive-clause-drives g c clients txns seed asked =
             c.drive.result) same.2 c.drive.ensures.prints)),
       ),
     )
+
+pub returns-in-Some-Drive-clause-counts : goal.returns-in-Some-Drive-clause-counts
+returns-in-Some-Drive-clause-counts g c clients count lease asked = absurd
+    (no_ids_driven c.in-Some-Drive.clients c.in-Some-Drive.txns c.in-Some-Drive.seed clients count lease
+    (one_asked (Drive c.in-Some-Drive.clients c.in-Some-Drive.txns c.in-Some-Drive.seed) (Ids clients count lease) c.in-Ok.ensures.command
+    (c.in-Some-Drive.is ∙ ap Some (rw c.in-Some-Drive.is at c.in-Some-Drive.field-0-is)) asked))
 
 pub returns-in-Some-Drive-clause-benches : goal.returns-in-Some-Drive-clause-benches
 returns-in-Some-Drive-clause-benches g c seed count asked = absurd
@@ -594,8 +552,9 @@ returns-in-Some-Drive-clause-explained_in_trial g c input = explained_from c.rea
 
 pub returns-in-Some-Drive-clause-no_usage_line : goal.returns-in-Some-Drive-clause-no_usage_line
 returns-in-Some-Drive-clause-no_usage_line g c command plain is = absurd
-    (drive_ends g.K.Sink _ _ _ _ _ c.drive.result (λ (e : Ending). status_of e ≢ 2) c.drive.ensures.prints (λ e. omega arith) (λ e. omega arith)
-    (λ e. omega arith) (sym c.status-status-in-Some-Drive.ensures ∙ is))
+    (lines_end g.K.Sink (TellsDriven c.in-Some-Drive.clients c.in-Some-Drive.txns c.in-Some-Drive.seed) _ _ c.drive.result
+    (λ (e : Ending). status_of e ≢ 2) c.drive.ensures.prints (λ e. omega arith) (λ e. omega arith) (λ e. omega arith)
+    (sym c.status-status-in-Some-Drive.ensures ∙ is))
 
 pub returns-in-Some-Drive-clause-not_plain : goal.returns-in-Some-Drive-clause-not_plain
 returns-in-Some-Drive-clause-not_plain g c other = absurd
@@ -613,13 +572,15 @@ returns-in-Some-Drive-clause-no_fault_in_trial g c stop outcome asked = absurd
 
 pub returns-in-Some-Drive-clause-disk_fault : goal.returns-in-Some-Drive-clause-disk_fault
 returns-in-Some-Drive-clause-disk_fault g c is = absurd
-    (drive_ends g.K.Sink _ _ _ _ _ c.drive.result (λ (e : Ending). status_of e ≢ 3) c.drive.ensures.prints (λ e. omega arith) (λ e. omega arith)
-    (λ e. omega arith) (sym c.status-status-in-Some-Drive.ensures ∙ is))
+    (lines_end g.K.Sink (TellsDriven c.in-Some-Drive.clients c.in-Some-Drive.txns c.in-Some-Drive.seed) _ _ c.drive.result
+    (λ (e : Ending). status_of e ≢ 3) c.drive.ensures.prints (λ e. omega arith) (λ e. omega arith) (λ e. omega arith)
+    (sym c.status-status-in-Some-Drive.ensures ∙ is))
 
 pub returns-in-Some-Drive-clause-reader_fault : goal.returns-in-Some-Drive-clause-reader_fault
 returns-in-Some-Drive-clause-reader_fault g c s starts is = absurd
-    (drive_ends g.K.Sink _ _ _ _ _ c.drive.result (λ (e : Ending). status_of e ≢ 3) c.drive.ensures.prints (λ e. omega arith) (λ e. omega arith)
-    (λ e. omega arith) (sym c.status-status-in-Some-Drive.ensures ∙ is))
+    (lines_end g.K.Sink (TellsDriven c.in-Some-Drive.clients c.in-Some-Drive.txns c.in-Some-Drive.seed) _ _ c.drive.result
+    (λ (e : Ending). status_of e ≢ 3) c.drive.ensures.prints (λ e. omega arith) (λ e. omega arith) (λ e. omega arith)
+    (sym c.status-status-in-Some-Drive.ensures ∙ is))
 
 pub returns-in-Some-Drive-clause-no_disk_fault : goal.returns-in-Some-Drive-clause-no_disk_fault
 returns-in-Some-Drive-clause-no_disk_fault g c other whole = refl
@@ -638,8 +599,9 @@ returns-in-Some-Drive-clause-refuses g c asked = absurd
 
 pub returns-in-Some-Drive-clause-read_fault : goal.returns-in-Some-Drive-clause-read_fault
 returns-in-Some-Drive-clause-read_fault g c is = absurd
-    (drive_ends g.K.Sink _ _ _ _ _ c.drive.result (λ (e : Ending). status_of e ≢ 6) c.drive.ensures.prints (λ e. omega arith) (λ e. omega arith)
-    (λ e. omega arith) (sym c.status-status-in-Some-Drive.ensures ∙ is))
+    (lines_end g.K.Sink (TellsDriven c.in-Some-Drive.clients c.in-Some-Drive.txns c.in-Some-Drive.seed) _ _ c.drive.result
+    (λ (e : Ending). status_of e ≢ 6) c.drive.ensures.prints (λ e. omega arith) (λ e. omega arith) (λ e. omega arith)
+    (sym c.status-status-in-Some-Drive.ensures ∙ is))
 
 pub returns-in-Some-Drive-clause-write_fault : goal.returns-in-Some-Drive-clause-write_fault
 returns-in-Some-Drive-clause-write_fault g c is = rose_by TheSink 7 sink_status c.drive.result _ _
@@ -662,6 +624,147 @@ returns-in-Some-Drive-clause-input g c asked = absurd
     (no_replay_driven c.in-Some-Drive.clients c.in-Some-Drive.txns c.in-Some-Drive.seed
     (one_asked (Drive c.in-Some-Drive.clients c.in-Some-Drive.txns c.in-Some-Drive.seed) Replay c.in-Ok.ensures.command
     (c.in-Some-Drive.is ∙ ap Some (rw c.in-Some-Drive.is at c.in-Some-Drive.field-0-is)) asked))
+
+-- ---- clients that take numbers
+
+pub count-requires-clause-clients : goal.count-requires-clause-clients
+count-requires-clause-clients g c κs within =
+    (in_range (map string_bytes c.args.words.now) (Ids c.in-Some-Ids.clients c.in-Some-Ids.count c.in-Some-Ids.lease)
+    (sym c.in-Ok.ensures.command ∙ c.in-Some-Ids.is ∙ ap Some (rw c.in-Some-Ids.is at c.in-Some-Ids.field-0-is))).0
+
+pub count-requires-clause-count : goal.count-requires-clause-count
+count-requires-clause-count g c κs within =
+    (in_range (map string_bytes c.args.words.now) (Ids c.in-Some-Ids.clients c.in-Some-Ids.count c.in-Some-Ids.lease)
+    (sym c.in-Ok.ensures.command ∙ c.in-Some-Ids.is ∙ ap Some (rw c.in-Some-Ids.is at c.in-Some-Ids.field-0-is))).1
+
+pub count-requires-clause-lease : goal.count-requires-clause-lease
+count-requires-clause-lease g c κs within =
+    (in_range (map string_bytes c.args.words.now) (Ids c.in-Some-Ids.clients c.in-Some-Ids.count c.in-Some-Ids.lease)
+    (sym c.in-Ok.ensures.command ∙ c.in-Some-Ids.is ∙ ap Some (rw c.in-Some-Ids.is at c.in-Some-Ids.field-0-is))).2
+
+pub returns-in-Some-Ids-clause-counts : goal.returns-in-Some-Ids-clause-counts
+returns-in-Some-Ids-clause-counts g c clients count lease asked =
+    let same = same_ids c.in-Some-Ids.clients c.in-Some-Ids.count c.in-Some-Ids.lease clients count lease
+    (one_asked (Ids c.in-Some-Ids.clients c.in-Some-Ids.count c.in-Some-Ids.lease) (Ids clients count lease) c.in-Ok.ensures.command
+    (c.in-Some-Ids.is ∙ ap Some (rw c.in-Some-Ids.is at c.in-Some-Ids.field-0-is)) asked) in (
+      refl,
+      refl,
+      (
+        c.count.result,
+        c.status-status-in-Some-Ids.ensures,
+        subst (λ (n : ℕ). PrintsCounted g.K.Sink n count lease c.args.sink.now c.count.new.sink c.count.result) same.0
+            (subst (λ (n : ℕ). PrintsCounted g.K.Sink c.in-Some-Ids.clients n lease c.args.sink.now c.count.new.sink c.count.result) same.1
+            (subst (λ (n : ℕ). PrintsCounted g.K.Sink c.in-Some-Ids.clients c.in-Some-Ids.count n c.args.sink.now c.count.new.sink
+            c.count.result) same.2 c.count.ensures.prints)),
+      ),
+    )
+
+pub returns-in-Some-Ids-clause-drives : goal.returns-in-Some-Ids-clause-drives
+returns-in-Some-Ids-clause-drives g c clients txns seed asked = absurd
+    (no_drive_counted clients txns seed c.in-Some-Ids.clients c.in-Some-Ids.count c.in-Some-Ids.lease
+    (one_asked (Ids c.in-Some-Ids.clients c.in-Some-Ids.count c.in-Some-Ids.lease) (Drive clients txns seed) c.in-Ok.ensures.command
+    (c.in-Some-Ids.is ∙ ap Some (rw c.in-Some-Ids.is at c.in-Some-Ids.field-0-is)) asked))
+
+pub returns-in-Some-Ids-clause-benches : goal.returns-in-Some-Ids-clause-benches
+returns-in-Some-Ids-clause-benches g c seed count asked = absurd
+    (no_bench_counted seed count c.in-Some-Ids.clients c.in-Some-Ids.count c.in-Some-Ids.lease
+    (one_asked (Ids c.in-Some-Ids.clients c.in-Some-Ids.count c.in-Some-Ids.lease) (Bench seed count) c.in-Ok.ensures.command
+    (c.in-Some-Ids.is ∙ ap Some (rw c.in-Some-Ids.is at c.in-Some-Ids.field-0-is)) asked))
+
+pub returns-in-Some-Ids-clause-answers : goal.returns-in-Some-Ids-clause-answers
+returns-in-Some-Ids-clause-answers g c asked = absurd
+    (no_replay_counted c.in-Some-Ids.clients c.in-Some-Ids.count c.in-Some-Ids.lease
+    (one_asked (Ids c.in-Some-Ids.clients c.in-Some-Ids.count c.in-Some-Ids.lease) Replay c.in-Ok.ensures.command
+    (c.in-Some-Ids.is ∙ ap Some (rw c.in-Some-Ids.is at c.in-Some-Ids.field-0-is)) asked))
+
+pub returns-in-Some-Ids-clause-tries : goal.returns-in-Some-Ids-clause-tries
+returns-in-Some-Ids-clause-tries g c stop outcome input asked = absurd
+    (no_trial_counted c.in-Some-Ids.clients c.in-Some-Ids.count c.in-Some-Ids.lease stop outcome
+    (one_asked (Ids c.in-Some-Ids.clients c.in-Some-Ids.count c.in-Some-Ids.lease) (Trial stop outcome) c.in-Ok.ensures.command
+    (c.in-Some-Ids.is ∙ ap Some (rw c.in-Some-Ids.is at c.in-Some-Ids.field-0-is)) asked))
+
+pub returns-in-Some-Ids-clause-explained : goal.returns-in-Some-Ids-clause-explained
+returns-in-Some-Ids-clause-explained g c s input starts = all_explained c.reads_without_conflict_stay_explained.ensures
+    g.D.Watched c.args.disk s (lines_of input) starts
+
+pub returns-in-Some-Ids-clause-explained_in_trial : goal.returns-in-Some-Ids-clause-explained_in_trial
+returns-in-Some-Ids-clause-explained_in_trial g c input = explained_from c.reads_without_conflict_stay_explained.ensures
+    begun (lines_of input) empty_proper refl
+
+pub returns-in-Some-Ids-clause-no_usage_line : goal.returns-in-Some-Ids-clause-no_usage_line
+returns-in-Some-Ids-clause-no_usage_line g c command plain is = absurd
+    (lines_end g.K.Sink (TellsCounted c.in-Some-Ids.clients c.in-Some-Ids.count c.in-Some-Ids.lease) _ _ c.count.result
+    (λ (e : Ending). status_of e ≢ 2) c.count.ensures.prints (λ e. omega arith) (λ e. omega arith) (λ e. omega arith)
+    (sym c.status-status-in-Some-Ids.ensures ∙ is))
+
+pub returns-in-Some-Ids-clause-not_plain : goal.returns-in-Some-Ids-clause-not_plain
+returns-in-Some-Ids-clause-not_plain g c other = absurd
+    (is_asked (Ids c.in-Some-Ids.clients c.in-Some-Ids.count c.in-Some-Ids.lease) c.in-Ok.ensures.command
+    (c.in-Some-Ids.is ∙ ap Some (rw c.in-Some-Ids.is at c.in-Some-Ids.field-0-is)) other)
+
+pub returns-in-Some-Ids-clause-untouched : goal.returns-in-Some-Ids-clause-untouched
+returns-in-Some-Ids-clause-untouched g c stop outcome asked = refl
+
+pub returns-in-Some-Ids-clause-no_fault_in_trial : goal.returns-in-Some-Ids-clause-no_fault_in_trial
+returns-in-Some-Ids-clause-no_fault_in_trial g c stop outcome asked = absurd
+    (no_trial_counted c.in-Some-Ids.clients c.in-Some-Ids.count c.in-Some-Ids.lease stop outcome
+    (one_asked (Ids c.in-Some-Ids.clients c.in-Some-Ids.count c.in-Some-Ids.lease) (Trial stop outcome) c.in-Ok.ensures.command
+    (c.in-Some-Ids.is ∙ ap Some (rw c.in-Some-Ids.is at c.in-Some-Ids.field-0-is)) asked))
+
+pub returns-in-Some-Ids-clause-disk_fault : goal.returns-in-Some-Ids-clause-disk_fault
+returns-in-Some-Ids-clause-disk_fault g c is = absurd
+    (lines_end g.K.Sink (TellsCounted c.in-Some-Ids.clients c.in-Some-Ids.count c.in-Some-Ids.lease) _ _ c.count.result
+    (λ (e : Ending). status_of e ≢ 3) c.count.ensures.prints (λ e. omega arith) (λ e. omega arith) (λ e. omega arith)
+    (sym c.status-status-in-Some-Ids.ensures ∙ is))
+
+pub returns-in-Some-Ids-clause-reader_fault : goal.returns-in-Some-Ids-clause-reader_fault
+returns-in-Some-Ids-clause-reader_fault g c s starts is = absurd
+    (lines_end g.K.Sink (TellsCounted c.in-Some-Ids.clients c.in-Some-Ids.count c.in-Some-Ids.lease) _ _ c.count.result
+    (λ (e : Ending). status_of e ≢ 3) c.count.ensures.prints (λ e. omega arith) (λ e. omega arith) (λ e. omega arith)
+    (sym c.status-status-in-Some-Ids.ensures ∙ is))
+
+pub returns-in-Some-Ids-clause-no_disk_fault : goal.returns-in-Some-Ids-clause-no_disk_fault
+returns-in-Some-Ids-clause-no_disk_fault g c other whole = refl
+
+pub returns-in-Some-Ids-clause-refused : goal.returns-in-Some-Ids-clause-refused
+returns-in-Some-Ids-clause-refused g c asked is = absurd
+    (no_replay_counted c.in-Some-Ids.clients c.in-Some-Ids.count c.in-Some-Ids.lease
+    (one_asked (Ids c.in-Some-Ids.clients c.in-Some-Ids.count c.in-Some-Ids.lease) Replay c.in-Ok.ensures.command
+    (c.in-Some-Ids.is ∙ ap Some (rw c.in-Some-Ids.is at c.in-Some-Ids.field-0-is)) asked))
+
+pub returns-in-Some-Ids-clause-refuses : goal.returns-in-Some-Ids-clause-refuses
+returns-in-Some-Ids-clause-refuses g c asked = absurd
+    (no_replay_counted c.in-Some-Ids.clients c.in-Some-Ids.count c.in-Some-Ids.lease
+    (one_asked (Ids c.in-Some-Ids.clients c.in-Some-Ids.count c.in-Some-Ids.lease) Replay c.in-Ok.ensures.command
+    (c.in-Some-Ids.is ∙ ap Some (rw c.in-Some-Ids.is at c.in-Some-Ids.field-0-is)) asked))
+
+pub returns-in-Some-Ids-clause-read_fault : goal.returns-in-Some-Ids-clause-read_fault
+returns-in-Some-Ids-clause-read_fault g c is = absurd
+    (lines_end g.K.Sink (TellsCounted c.in-Some-Ids.clients c.in-Some-Ids.count c.in-Some-Ids.lease) _ _ c.count.result
+    (λ (e : Ending). status_of e ≢ 6) c.count.ensures.prints (λ e. omega arith) (λ e. omega arith) (λ e. omega arith)
+    (sym c.status-status-in-Some-Ids.ensures ∙ is))
+
+pub returns-in-Some-Ids-clause-write_fault : goal.returns-in-Some-Ids-clause-write_fault
+returns-in-Some-Ids-clause-write_fault g c is = rose_by TheSink 7 sink_status c.count.result _ _
+    c.count.ensures.sink_faults (sym c.status-status-in-Some-Ids.ensures ∙ is)
+
+pub returns-in-Some-Ids-clause-no_stream_fault : goal.returns-in-Some-Ids-clause-no_stream_fault
+returns-in-Some-Ids-clause-no_stream_fault g c less =
+    let ending = c.count.result in
+    let small : status_of ending < 6 = subst (λ (n : ℕ). n < 6) c.status-status-in-Some-Ids.ensures less in (
+      refl,
+      steady_by TheSink 7 sink_status ending _ _ c.count.ensures.sink_faults
+          (below (status_of ending) 7 small (omega arith)) (below (status_of ending) 7 small (omega arith)),
+    )
+
+pub returns-in-Some-Ids-clause-again : goal.returns-in-Some-Ids-clause-again
+returns-in-Some-Ids-clause-again g c s input starts told may = may
+
+pub returns-in-Some-Ids-clause-input : goal.returns-in-Some-Ids-clause-input
+returns-in-Some-Ids-clause-input g c asked = absurd
+    (no_replay_counted c.in-Some-Ids.clients c.in-Some-Ids.count c.in-Some-Ids.lease
+    (one_asked (Ids c.in-Some-Ids.clients c.in-Some-Ids.count c.in-Some-Ids.lease) Replay c.in-Ok.ensures.command
+    (c.in-Some-Ids.is ∙ ap Some (rw c.in-Some-Ids.is at c.in-Some-Ids.field-0-is)) asked))
 
 -- ---- plain words for which there was no memory
 

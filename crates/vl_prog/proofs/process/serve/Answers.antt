@@ -14,15 +14,28 @@ returns-clause-served g c =
       over_same same (record {
         made = c.make_disk-disk.result;
         is_made = (c.in-Some.folder, c.in-Some.ensures.folder ∙ ap folder_of (sym same), c.make_disk-disk.ensures);
-        answers = ran.answers;
-        input = ran.input;
-        tries = ran.tries;
-        benches = ran.benches;
-        drives = ran.drives;
-        not_plain = ran.not_plain;
-        no_usage_line = ran.no_usage_line;
-        disk_fault = ran.disk_fault;
-        reader_fault = ran.reader_fault;
-        no_disk_fault = ran.no_disk_fault;
+        does = record {
+          answers = ran.answers;
+          input = ran.input;
+          tries = ran.tries;
+          untouched = ran.untouched;
+          benches = ran.benches;
+          drives = ran.drives;
+          counts = ran.counts;
+          not_plain = ran.not_plain;
+        };
+        cause = record {
+          no_usage_line = ran.no_usage_line;
+          no_fault_in_trial = ran.no_fault_in_trial;
+          disk_fault = ran.disk_fault;
+          reader_fault = ran.reader_fault;
+          no_disk_fault = ran.no_disk_fault;
+          refused = ran.refused;
+          refuses = ran.refuses;
+          read_fault = ran.read_fault;
+          write_fault = ran.write_fault;
+          no_stream_fault = ran.no_stream_fault;
+        };
+        again = ran.again;
       }),
     )
