@@ -6,10 +6,10 @@ use vlstore::SureStore;
 // One client that takes one turn, and eight that take many, with upkeep beside them.
 #[test]
 fn clients_come_to_their_end(rt: HostRuntime) -> Result<(), Fail> {
-    let one = drive_store::<SureStore, HostRuntime>(&rt, rt.alloc(), 1, 1, 0)?;
+    let (one, _) = drive_store::<SureStore, HostRuntime>(&rt, rt.alloc(), 1, 1, 0)?;
     assert_eq!(&rt; (one.commits, one.conflicts, one.total), (1, 0, 64000));
-    let many = drive_store::<SureStore, HostRuntime>(&rt, rt.alloc(), 8, 200, 7)?;
-    assert_eq!(&rt; many.commits + many.conflicts, 1600);
+    let (many, _) = drive_store::<SureStore, HostRuntime>(&rt, rt.alloc(), 8, 50, 7)?;
+    assert_eq!(&rt; many.commits + many.conflicts, 400);
     assert_eq!(&rt; many.total, 64000);
     Ok(())
 }
