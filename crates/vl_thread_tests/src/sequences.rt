@@ -152,14 +152,27 @@ fn refusals<S: Shop, R: Wait>(rt: &R, alloc: Global, shop: S, bytes: u64) -> Opt
     Some((count, ids.into_shop()))
 }
 
+// So of a new store whose key has a value of three bytes. Behind them a transaction can be begun.
+fn refused<T: Shops, R: Wait>(rt: &R, alloc: Global) -> Option<u32> {
+    let Ok((_store, shops)) = T::open(alloc, 1) else {
+        return None;
+    };
+    let mut shop = only(shops)?;
+    if !write(rt, &mut shop, b"abc") {
+        return None;
+    }
+    let (count, mut shop) = refusals(rt, alloc, shop, 3)?;
+    if begins(rt, &mut shop) {
+        Some(count)
+    } else {
+        None
+    }
+}
+
 #[test]
 fn a_refusal_leaves_no_transaction(rt: HostRuntime) -> Result<(), Fail> {
-    let (_store, shops) = SureStore::open(rt.alloc(), 1)?;
-    let mut shop = only(shops).expect(&rt, "there is a session");
-    assert!(&rt; write(&rt, &mut shop, b"abc"));
-    let (count, mut shop) = refusals(&rt, rt.alloc(), shop, 3).expect(&rt, "each is of this cause");
+    let count = refused::<SureStore, HostRuntime>(&rt, rt.alloc()).expect(&rt, "one begins");
     assert_eq!(&rt; count, 1_100);
-    assert!(&rt; begins(&rt, &mut shop));
     Ok(())
 }
 
@@ -186,21 +199,34 @@ fn ends_with<S: Shop, R: Wait>(
     matches!(ids.next(rt), Err(SeqFail::Spent))
 }
 
+// So in a new store.
+fn is_spent_behind<T: Shops, R: Wait>(
+    rt: &R,
+    alloc: Global,
+    value: [u8; 8],
+    numbers: &[u64],
+) -> bool {
+    let Ok((_store, shops)) = T::open(alloc, 1) else {
+        return false;
+    };
+    match only(shops) {
+        Some(shop) => ends_with(rt, alloc, shop, value, numbers),
+        None => false,
+    }
+}
+
 // No lease ends above 2^63 - 1.
 #[test]
 fn a_sequence_is_spent(rt: HostRuntime) -> Result<(), Fail> {
-    let (_store, shops) = SureStore::open(rt.alloc(), 1)?;
-    let shop = only(shops).expect(&rt, "there is a session");
     let value = [0x7f, 0xff, 0xff, 0xff, 0xff, 0xff, 0xff, 0xfc];
-    assert!(&rt; ends_with(&rt, rt.alloc(), shop, value, &[]));
+    let spent = is_spent_behind::<SureStore, HostRuntime>(&rt, rt.alloc(), value, &[]);
+    assert!(&rt; spent);
     Ok(())
 }
 
 // The last lease ends at 2^63 - 1.
 #[test]
 fn a_sequence_gives_its_last_lease(rt: HostRuntime) -> Result<(), Fail> {
-    let (_store, shops) = SureStore::open(rt.alloc(), 1)?;
-    let shop = only(shops).expect(&rt, "there is a session");
     let value = [0x7f, 0xff, 0xff, 0xff, 0xff, 0xff, 0xff, 0xfb];
     let numbers = [
         9223372036854775803,
@@ -208,7 +234,8 @@ fn a_sequence_gives_its_last_lease(rt: HostRuntime) -> Result<(), Fail> {
         9223372036854775805,
         9223372036854775806,
     ];
-    assert!(&rt; ends_with(&rt, rt.alloc(), shop, value, &numbers));
+    let spent = is_spent_behind::<SureStore, HostRuntime>(&rt, rt.alloc(), value, &numbers);
+    assert!(&rt; spent);
     Ok(())
 }
 
@@ -231,13 +258,20 @@ fn raced<S: Shop, R: Wait>(rt: &R, alloc: Global, shop: S, other: S) -> Option<(
     Some((number, given))
 }
 
+// So of two sessions of a new store.
+fn raced_by<T: Shops, R: Wait>(rt: &R, alloc: Global) -> Option<(u64, u64)> {
+    let Ok((_store, mut shops)) = T::open(alloc, 2) else {
+        return None;
+    };
+    let other = shops.pop()?;
+    let shop = shops.pop()?;
+    raced(rt, alloc, shop, other)
+}
+
 // The other's commit is the first of the store, and its value tells 100.
 #[test]
 fn a_raced_sequence_is_asked_again(rt: HostRuntime) -> Result<(), Fail> {
-    let (_store, mut shops) = SureStore::open(rt.alloc(), 2)?;
-    let other = shops.pop().expect(&rt, "there is a session");
-    let shop = shops.pop().expect(&rt, "there is another");
-    let answers = raced(&rt, rt.alloc(), shop, other).expect(&rt, "it is raced, and then gives");
+    let answers = raced_by::<SureStore, HostRuntime>(&rt, rt.alloc()).expect(&rt, "it then gives");
     assert_eq!(&rt; answers, (1, 100));
     Ok(())
 }

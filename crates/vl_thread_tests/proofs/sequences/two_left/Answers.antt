@@ -10,11 +10,11 @@ use Rattle.vlstore.proofs.ShopKept.{crash_keeps}
 use Rattle.vl_thread_tests.proofs.sequences.two_left.Goals as goal
 
 pub two_given-requires-send-T-Shop : goal.two_given-requires-send-T-Shop
-two_given-requires-send-T-Shop g c κs =
+two_given-requires-send-T-Shop g c κs lives =
     param_send 2 _ (arg_send _ no _ (sure_session _ _ _ _ _ _ _ _ _ _ disk.the_send held.the_send held.the_sync writer.the_send))
 
 pub two_given-requires-send-T-Shop-Note : goal.two_given-requires-send-T-Shop-Note
-two_given-requires-send-T-Shop-Note g c κs =
+two_given-requires-send-T-Shop-Note g c κs lives =
     param_send 5 _ (arg_send _ no _ (note _ _ reader.the_row _ _ _ _ _ _ disk.the_send held.the_send held.the_sync writer.the_send))
 
 pub returns-in-Ok : goal.returns-in-Ok
