@@ -8,5 +8,5 @@ use Rattle.vlstore.proofs.Crosses.{note}
 use Rattle.vl_thread_tests.proofs.sequences.two_behind.Goals as goal
 
 pub next_two-requires-send-S-Note : goal.next_two-requires-send-S-Note
-next_two-requires-send-S-Note g c κs =
+next_two-requires-send-S-Note g c κs lives =
     param_send 3 _ (arg_send _ no _ (note _ _ reader.the_row _ _ _ _ _ _ disk.the_send held.the_send held.the_sync writer.the_send))
