@@ -1,17 +1,19 @@
 -- How a pass goes over its log, frame by frame.
 use Rattle.std.proofs.Common.{◌≡◌, ◌⊎◌, inl, inr, ℕ, zero, suc, ◌+◌, ◌<◌, ◌≤◌, List, [], ◌∷◌, ◌++◌, length, map}
-use Rattle.std.proofs.Common.{drop, refl, ap, sym, ◌∙◌, subst, arith, length-append}
+use Rattle.std.proofs.Common.{drop, refl, ap, append_assoc, sym, ◌∙◌, subst, arith, length-append}
 use Rattle.std.proofs.Math.Seq.{drop-drop, drop-nil}
-use Rattle.std.proofs.lemmas.List.{drop_at, length-drop, length-map}
+use Rattle.std.proofs.lemmas.List.{drop_at, get_or-map, length-drop, length-map}
+use Rattle.std.proofs.lemmas.List.Elements.{All-contains, All-map, All-nil, All-weaker}
 use Rattle.std.proofs.lemmas.List.Sums.{sum_by-cons}
-use Rattle.std.specs.List.{sum_by}
-use Rattle.std.specs.Prelude.{Option, Some}
+use Rattle.std.specs.List.{All, Contains, sum_by}
+use Rattle.std.specs.Prelude.{IfNone, IfSome, Option, Some}
 use Rattle.vl_collect.proofs.Outcomes.{ended, records_end}
-use Rattle.vl_collect.specs.Passing.{AreLeft, EndAt, Walks, records_behind}
-use Rattle.vl_collect.specs.Taking.{Passes, candidates, outcome, record_of, records_as}
+use Rattle.vl_collect.specs.Batches.{IsOfOne, IsOldOrOf}
+use Rattle.vl_collect.specs.Passing.{AreLeft, EndAt, FramesTo, IsRead, Walks, log_record, records_behind}
+use Rattle.vl_collect.specs.Taking.{Passes, candidate_of, candidates, outcome, record_of, records_as}
 use Rattle.vl_collect.specs.declared.batch.Found.{Found}
 use Rattle.vl_collect.specs.declared.pass.At.{At}
-use Rattle.vl_frame.specs.Runs.{Grammar, ReadsAs, StandsNone, item_frame}
+use Rattle.vl_frame.specs.Runs.{Grammar, ReadsAs, StandsNone, item_frame, run_bytes}
 use Rattle.vl_frame.specs.laws.RunLaws as runs
 use Rattle.vl_engine_model.specs.Logs.{LogRecord, committed_records, frame_records, records_from, relocated_records}
 use Rattle.vl_engine_model.specs.Relocation as layout
@@ -71,6 +73,15 @@ map_drop n [] = ap records_as (drop-nil n) ∙ sym (drop-nil n)
 map_drop zero (r ∷ rs) = refl
 map_drop (suc n) (r ∷ rs) = map_drop n rs
 
+abbrev with_change : ReadRecord → Change → LogRecord
+with_change r c = record { key = r.key; version = r.version; change = c; place = r.pointer.place }
+
+among_records : (rs : List ReadRecord) (r : ReadRecord) → Contains rs r → Contains (records_as rs) (record_of r)
+among_records rs r c =
+    let within = c.1 in
+    let long = length-map rs record_of in
+    (c.0, omega (arith, within, long), get_or-map record_of rs c.0 r (record_of r) within ∙ ap record_of c.2)
+
 -- ---- what is left
 
 module _ (format number : ℕ) (bytes : List ℕ) where
@@ -102,6 +113,21 @@ module _ (format number : ℕ) (bytes : List ℕ) where
       let none = torn_frames place ends.frames ends.reads torn.none in
       let is : end ≡ place + 0 = ends.is ∙ ap (λ (fs : List LogFrame). place + sum_by (frame_length format) fs) none in
       omega (arith, is)
+
+  -- no frames lead from a place to itself
+  pub stays : (place : ℕ) → FramesTo format number bytes place place
+  stays place =
+      let same : place ≡ place + 0 = omega arith in
+      record { frames = []; have = tt; rest = drop place bytes; spelled = refl; is = same }
+
+  abbrev Read : ℕ → Found → Type 0
+  Read from x = IsRead format number bytes from (candidate_of x)
+
+  -- where all that is new was read, and there was nothing, what there is was read
+  pub as_given : (from : ℕ) (old now : List Found) → old ≡ [] → (All (Read from) old → All (Read from) now)
+      → All (IsRead format number bytes from) (candidates now)
+  as_given from old now none all =
+      All-map (IsRead format number bytes from) candidate_of now (all (subst (All (Read from)) (sym none) (All-nil (Read from))))
 
   module _ (place : ℕ) (f : Frame) (found : IsFound format number place bytes (Some f)) (at : IsFrameAt format number place f) where
     abbrev G : Grammar LogFrame
@@ -153,6 +179,47 @@ module _ (format number : ℕ) (bytes : List ℕ) where
           is = omega (arith, is, at.length_is, sum_by-cons (frame_length format) (frame_of f) on.0);
         }
 
+    -- what frames behind it lead to, it and they lead to
+    pub leads_on : (to : ℕ) → FramesTo format number bytes (place + f.length) to → FramesTo format number bytes place to
+    leads_on to run =
+        let frame = item_frame G number place (frame_of f) in
+        let others = run_bytes G number (place + f.length) run.frames in
+        let size : length frame ≡ f.length = length-item_frame format number place (frame_of f) ∙ sym at.length_is in
+        let all : run_bytes G number place (frame_of f ∷ run.frames) ≡ frame ++ others =
+        ap (λ (n : ℕ). frame ++ run_bytes G number (place + n) run.frames) size in
+        let long : length (run_bytes G number place (frame_of f ∷ run.frames)) ≡ length frame + length others =
+        ap length all ∙ length-append frame others in
+        let here = spelled ∙ ap (λ (l : List ℕ). frame ++ l) (sym rest_is ∙ run.spelled) ∙ sym (append_assoc frame others run.rest)
+        ∙ ap (λ (l : List ℕ). l ++ run.rest) (sym all) in
+        record {
+          frames = frame_of f ∷ run.frames;
+          have = (record { lawful = found.1.lawful; short = found.1.short }, run.have);
+          rest = run.rest;
+          spelled = here;
+          is = omega (arith, run.is, size, long);
+        }
+
+    one_read : (from : ℕ) → FramesTo format number bytes from place → (recs : List ReadRecord) → recs ≡ records_of f.said
+        → (x : Found) → IsOfOne recs x → Read from x
+    one_read from lead recs are x one =
+        let same : log_record (candidate_of x) ≡ record_of one.r =
+        ap log_record one.is.is ∙ ap (with_change one.r) (sym one.is.sets) in
+        let among : Contains (records_of f.said) one.r = subst (λ (rs : List ReadRecord). Contains rs one.r) are one.among in
+        let there : Contains (records_as (records_of f.said)) (log_record (candidate_of x)) =
+        subst (Contains (records_as (records_of f.said))) (sym same) (among_records (records_of f.said) one.r among) in
+        let here = subst (λ (rs : List LogRecord). Contains rs (log_record (candidate_of x)))
+        (said_are format number place f.said at.records) there in
+        record { at = place; to = lead; frame = frame_of f; rest = found.0; stands = found.1; is = here }
+
+    -- what was read before it, and is of its records, was read
+    pub all_read : (from : ℕ) → FramesTo format number bytes from place → (recs : List ReadRecord) → recs ≡ records_of f.said
+        → (old now : List Found) → All (Read from) old → All (IsOldOrOf old recs) now → All (Read from) now
+    all_read from lead recs are old now before = All-weaker (IsOldOrOf old recs) (Read from) by now
+      where
+        by : (x : Found) → IsOldOrOf old recs x → Read from x
+        by x (inl there) = All-contains (Read from) old x before there
+        by x (inr one) = one_read from lead recs are x one
+
     abbrev behind_it : At
     behind_it = record { place = place + f.length; done = 0 }
 
@@ -191,6 +258,24 @@ module _ (format number : ℕ) (bytes : List ℕ) where
         }
 
 -- ---- the walk
+
+-- where nothing was taken there is no batch
+pub not_any : (xs : List Found) (batch : Option (List Candidate)) (Over : Type 0) → batch ≡ layout.if_any (candidates xs)
+    → (xs ≡ [] → Over) → IfNone batch Over
+not_any xs batch Over is over = subst (λ (b : Option (List Candidate)). IfNone b Over) (sym is) (by xs over)
+  where
+    by : (ys : List Found) → (ys ≡ [] → Over) → IfNone (layout.if_any (candidates ys)) Over
+    by [] all = all refl
+    by (y ∷ ys) all = tt
+
+-- and of what was taken it is
+pub if_given : (xs : List Found) (batch : Option (List Candidate)) (P : List Candidate → Type 0)
+    → batch ≡ layout.if_any (candidates xs) → P (candidates xs) → IfSome batch P
+if_given xs batch P is holds = subst (λ (b : Option (List Candidate)). IfSome b P) (sym is) (by xs holds)
+  where
+    by : (ys : List Found) → P (candidates ys) → IfSome (layout.if_any (candidates ys)) P
+    by [] all = tt
+    by (y ∷ ys) all = all
 
 module _ {H : Type 0} (bytes : H → Option (List ℕ)) where
   -- from the place on where a pass was a batch took more, and it is there now

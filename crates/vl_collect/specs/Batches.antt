@@ -1,6 +1,6 @@
 -- What is so of a batch whatever is told: its records stand in their order in the log, and a log that is written may have them.
-use Rattle.std.specs.Prelude.{◌≡◌, ◌≤◌, ℕ, ◌+◌, Bool, true, ◌&&◌, nat_le, List, [], ◌∷◌, length}
-use Rattle.std.specs.List.{All}
+use Rattle.std.specs.Prelude.{◌≡◌, ◌⊎◌, ◌≤◌, ℕ, ◌+◌, Bool, true, ◌&&◌, nat_le, List, [], ◌∷◌, length}
+use Rattle.std.specs.List.{All, Contains}
 use Rattle.vl_collect.specs.Taking.{candidate_of}
 use Rattle.vl_collect.specs.declared.batch.Found.{Found}
 use Rattle.vl_model.specs.Formats.{log_format}
@@ -45,6 +45,15 @@ pub record IsOf (r : ReadRecord) (found : Found) : Type 0 where
     moved = record { key = r.key; version = r.version; value = value };
     place = r.pointer.place;
   }
+
+pub record IsOfOne (records : List ReadRecord) (found : Found) : Type 0 where
+  pub r : ReadRecord
+  pub among : Contains records r
+  pub is : IsOf r found
+
+-- it was found before, or is one of these records
+abbrev pub IsOldOrOf : List Found → List ReadRecord → Found → Type 0
+IsOldOrOf old records found = Contains old found ⊎ IsOfOne records found
 
 pub record IsBatch (records : List Found) : Type 0 where
   pub lawful : All IsLawful records

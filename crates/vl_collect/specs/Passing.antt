@@ -1,17 +1,18 @@
 -- What a pass stands for, by the entries of its sources and the bytes of its log, where these are told.
-use Rattle.std.specs.Prelude.{◌≡◌, ℕ, ◌+◌, List, [], ◌∷◌, ◌++◌, drop, length, Option, Some}
-use Rattle.std.specs.List.{sum_by}
+use Rattle.std.specs.Prelude.{◌≡◌, ◌≤◌, ℕ, ◌+◌, List, [], ◌∷◌, ◌++◌, drop, length, Option, Some}
+use Rattle.std.specs.List.{All, AllByRecursion, Contains, sum_by}
 use Rattle.std.specs.Option.{ForSome}
 use Rattle.vl_collect.specs.Taking.{candidates, outcome}
 use Rattle.vl_collect.specs.declared.batch.Found.{Found}
 use Rattle.vl_collect.specs.declared.pass.At.{At}
 use Rattle.vl_collect.specs.declared.pass.Pass.{Pass}
-use Rattle.vl_frame.specs.Runs.{ReadsAs}
+use Rattle.vl_frame.specs.Runs.{HasFrame, ReadsAs, StandsAt, run_bytes}
 use Rattle.vl_engine_model.specs.Logs.{LogRecord, frame_records, records_from}
 use Rattle.vl_engine_model.specs.Relocation.{Candidate, next_batch}
 use Rattle.vl_engine_model.specs.Relocation as layout
 use Rattle.vl_merge.specs.Marked.{Marked, all_of}
 use Rattle.vl_model.specs.Frames.{frame_length}
+use Rattle.vl_model.specs.declared.change.Change.TheVariants.{Set}
 use Rattle.vl_model.specs.declared.entry.Entry.{Entry}
 use Rattle.vl_model.specs.declared.log_frame.LogFrame.{LogFrame}
 use Rattle.vl_seglog.specs.Frames.{frames_grammar}
@@ -38,8 +39,17 @@ pub record EndAt (format number : ℕ) (bytes : List ℕ) (place end : ℕ) : Ty
   pub reads : ReadsAs (frames_grammar format) number place (drop place bytes) frames
   pub is : end ≡ place + sum_by (frame_length format) frames
 
--- the frames from a place on end there, and bytes stand behind them
+-- From one place to the other frames of the log of this format with this number are spelled, one behind the other.
+pub record FramesTo (format number : ℕ) (bytes : List ℕ) (from to : ℕ) : Type 0 where
+  pub frames : List LogFrame
+  pub have : AllByRecursion (HasFrame (frames_grammar format)) frames
+  pub rest : List ℕ
+  pub spelled : drop from bytes ≡ run_bytes (frames_grammar format) number from frames ++ rest
+  pub is : to ≡ from + length (run_bytes (frames_grammar format) number from frames)
+
+-- Frames are spelled from a place to that which is found, where bytes stand and no frame: there the frames end.
 pub record IsTornAt (format number : ℕ) (bytes : List ℕ) (place found : ℕ) : Type 0 where
+  pub to : FramesTo format number bytes place found
   pub torn : IsTorn format number found bytes
   pub ends : (end : ℕ) → EndAt format number bytes place end → found ≡ end
 
@@ -47,6 +57,31 @@ pub record IsTornAt (format number : ℕ) (bytes : List ℕ) (place found : ℕ)
 abbrev pub TornBehind : {H : Type 0} → (H → Option (List ℕ)) → SealedLog H → ℕ → ℕ → Type 0
 TornBehind bytes log place found =
     ForSome (bytes log.held) (λ told. IsTornAt log.format log.number told place found)
+
+-- so of the log, where it tells its bytes
+abbrev pub Reaches : {H : Type 0} → (H → Option (List ℕ)) → SealedLog H → (from to : ℕ) → Type 0
+Reaches bytes log from to = ForSome (bytes log.held) (λ told. FramesTo log.format log.number told from to)
+
+-- none of its bytes stands at a place or behind it
+abbrev pub IsOver : {H : Type 0} → (H → Option (List ℕ)) → SealedLog H → ℕ → Type 0
+IsOver bytes log place = ForSome (bytes log.held) (λ told. length told ≤ place)
+
+-- the record of a log that a candidate is: it sets its key
+abbrev pub log_record : Candidate → LogRecord
+log_record c = record { key = c.moved.key; version = c.moved.version; change = Set c.moved.value; place = c.place }
+
+-- It is a record of a frame that is spelled in the log, and up to which frames are spelled from a place on.
+pub record IsRead (format number : ℕ) (bytes : List ℕ) (place : ℕ) (c : Candidate) : Type 0 where
+  pub at : ℕ
+  pub to : FramesTo format number bytes place at
+  pub frame : LogFrame
+  pub rest : List ℕ
+  pub stands : StandsAt (frames_grammar format) number at (drop at bytes) frame rest
+  pub is : Contains (frame_records format at frame) (log_record c)
+
+-- so is each of these, where the log tells its bytes
+abbrev pub AreRead : {H : Type 0} → (H → Option (List ℕ)) → SealedLog H → ℕ → List Candidate → Type 0
+AreRead bytes log place given = ForSome (bytes log.held) (λ told. All (IsRead log.format log.number told place) given)
 
 -- where the log's frames from one place on end, those from the other place on end too
 abbrev pub EndsAlike : {H : Type 0} → (H → Option (List ℕ)) → SealedLog H → (from to : ℕ) → Type 0

@@ -40,10 +40,11 @@ impl<V, H> Pass<V, H> {
 }
 
 impl<V: Sources<Fault = ReadFault>, H: HeldFile> Pass<V, H> {
-    ghost use Rattle.std.specs.Prelude.{◌≡◌, [], IfErr, IfOk, OnErr, OnOk};
+    ghost use Rattle.std.specs.Prelude.{◌≡◌, [], IfErr, IfNone, IfOk, IfSome, OnErr, OnOk};
     ghost use Rattle.vl_collect.specs.Batches.{IsBatch};
     ghost use Rattle.vl_collect.specs.Faults.{FailsPassing, MayWhere, NoneRose, counted};
-    ghost use Rattle.vl_collect.specs.Passing.{Begins, EndsAlike, Gives, IsPass, TornBehind, Walks};
+    ghost use Rattle.vl_collect.specs.Passing.{AreRead, Begins, EndsAlike, Gives, IsOver, IsPass, Reaches, TornBehind, Walks};
+    ghost use Rattle.vl_collect.specs.Taking.{candidates};
     ghost use Rattle.vl_engine_model.specs.Relocation as layout;
 
     /// A pass over this log that has given nothing yet, with the sources by which it is told what wins.
@@ -75,13 +76,19 @@ impl<V: Sources<Fault = ReadFault>, H: HeldFile> Pass<V, H> {
         ensures gives { (p : layout.Pass) → V.fits self.old.base looks.old → IsPass H.bytes V.has self.old p
             → IfOk result (Gives H.bytes V.has self.new p) }
         ensures kept { self.new ≡ record self.old { at = self.new.at } }
+        // Whatever is known besides the log's bytes, it goes on over whole frames alone, and only where these are all of the
+        // log it gives nothing.
+        ensures reaches { OnOk result (Reaches H.bytes self.old.log self.old.at.place self.new.at.place) }
+        ensures over { IfOk result (λ batch. IfNone batch (IsOver H.bytes self.old.log self.new.at.place)) }
+        // And what it gives was read from them.
+        ensures read { IfOk result (λ batch. IfSome batch (AreRead H.bytes self.old.log self.old.at.place)) }
         ensures ends { OnOk result (EndsAlike H.bytes self.old.log self.old.at.place self.new.at.place) }
         ensures refused { OnErr result (self.new ≡ self.old) }
         ensures fits { V.fits self.old.base looks.old → V.fits self.old.base looks.new }
         ensures steady { OnOk result (NoneRose
             (counted (V.faults looks.old) (V.faults looks.new) (R.faults files.old) (R.faults files.new))) }
         // Reading fails only where a count says so. Which fault of its sources it is hangs on what their reader keeps. The log
-        // is damaged only where its frames end, and bytes stand behind them.
+        // is damaged only where the frames from the pass's place on end, and bytes stand behind them.
         ensures cause { IfErr result (FailsPassing (λ f. V.is_read_fault f)
             (MayWhere (V.fits self.old.base looks.old) (V.may_fail self.old.base))
             self.old.log.number (TornBehind H.bytes self.old.log self.old.at.place)
@@ -104,6 +111,10 @@ impl<V: Sources<Fault = ReadFault>, H: HeldFile> Pass<V, H> {
         ensures walks { (p : layout.Pass) → V.fits self.now.base looks.old → IsPass H.bytes V.has self.now p
             → IfOk result (Walks H.bytes self.now.log p batch.old.items batch.new.items) }
         ensures batch { batch.old.items ≡ [] → OnOk result (IsBatch batch.new.items) }
+        ensures reaches { IfOk result (λ at. Reaches H.bytes self.now.log self.now.at.place at.place) }
+        ensures over { IfOk result (λ at. batch.new.items ≡ [] → IsOver H.bytes self.now.log at.place) }
+        ensures read { batch.old.items ≡ []
+            → OnOk result (AreRead H.bytes self.now.log self.now.at.place (candidates batch.new.items)) }
         ensures ends { IfOk result (λ at. EndsAlike H.bytes self.now.log self.now.at.place at.place) }
         ensures fits { V.fits self.now.base looks.old → V.fits self.now.base looks.new }
         ensures steady { OnOk result (NoneRose

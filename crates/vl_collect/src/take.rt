@@ -1,7 +1,7 @@
 //! The records of a frame that a batch takes.
 
 ghost use Rattle.std.specs.Prelude.{◌≡◌, ◌++◌, ◌∷◌, [], ◌<◌, ◌≤◌, List, drop, length, map, IfErr, IfOk, IfSome, OnOk, All, ℕ};
-ghost use Rattle.vl_collect.specs.Batches.{IsLawful, IsOf, MayMove, Rise, found_place, read_place};
+ghost use Rattle.vl_collect.specs.Batches.{IsLawful, IsOf, IsOldOrOf, MayMove, Rise, found_place, read_place};
 ghost use Rattle.vl_collect.specs.Faults.{FailsLooking, MayWhere};
 ghost use Rattle.vl_collect.specs.Passing.{HasEntries};
 ghost use Rattle.vl_collect.specs.Taking.{Passes, candidate_of, candidates, one_of, record_of, records_as};
@@ -41,6 +41,10 @@ pub fn take_found<V: Sources<Fault = ReadFault>>(
     ensures passes { (entries : List Entry) → V.fits base.now looks.old → HasEntries V.has base.now entries
         → IfOk result (λ now. Passes entries segment (candidates batch.old.items) (records_as (drop done records.now))
         (candidates batch.new.items) (records_as (drop now records.now))) }
+    // It ends early only for want of room, and one record has room in a batch however long it is.
+    ensures some { IfOk result (λ now. now < length records.now → 1 ≤ length batch.new.items) }
+    // What it takes is of these records.
+    ensures read { OnOk result (All (IsOldOrOf batch.old.items records.now) batch.new.items) }
     // Where the records stand behind those of the batch, it keeps their order.
     ensures rises { (low high : ℕ) → Rise found_place 0 batch.old.items low → Rise read_place low (drop done records.now) high
         → OnOk result (Rise found_place 0 batch.new.items high) }

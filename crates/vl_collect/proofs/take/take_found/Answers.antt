@@ -1,13 +1,13 @@
-use Rattle.std.proofs.Common.{◌≡◌, ◌+◌, List, ap, sym, subst, ◌∙◌, inl, inr, drop, length, ◌++◌, arith}
+use Rattle.std.proofs.Common.{◌≡◌, ◌+◌, List, ap, refl, sym, subst, ◌∙◌, inl, inr, drop, length, ◌++◌, arith}
 use Rattle.std.proofs.Common.{Option}
 use Rattle.vl_collect.proofs.Failing.{passed_on, looks_later}
-use Rattle.std.proofs.lemmas.List.Elements.{All-push}
-use Rattle.std.specs.List.{All}
+use Rattle.std.proofs.lemmas.List.Elements.{All-contains_itself, All-push, All-weaker, Contains-get_or}
+use Rattle.std.specs.List.{All, Contains}
 use Rattle.std.specs.Prelude.{IfSome}
 use Rattle.vl_collect.proofs.Outcomes.{left_out, passed_by, records_end, taken_in}
 use Rattle.vl_collect.proofs.Rising.{InFront, all_rise, lawful_one, passes_on, takes_on}
 use Rattle.vl_collect.proofs.take.take_found.Goals.{in-None, in-Some+else-not-has_room+in_ok-put-in-Some}
-use Rattle.vl_collect.specs.Batches.{IsLawful, IsOf}
+use Rattle.vl_collect.specs.Batches.{IsLawful, IsOf, IsOldOrOf}
 use Rattle.vl_collect.specs.Taking.{candidates, one_of, outcome, record_of, records_as}
 use Rattle.vl_collect.specs.declared.batch.Found.{Found}
 use Rattle.vl_engine_model.specs.Logs.{LogRecord}
@@ -53,6 +53,18 @@ returns-then-not-has_room-clause-rises g c = λ low high before behind.
 pub returns-clause-rises : goal.returns-clause-rises
 returns-clause-rises g c = λ low high before behind.
     all_rise c.loop-at.batch.items (drop c.loop-at.at c.args.records.now) high (c.loop-at.invariant.rises low high before behind)
+
+pub loop-at-init : goal.loop-at-init
+loop-at-init g c =
+    let old = c.args.batch.now.items in
+    record {
+      same = λ entries fits has others. refl;
+      rises = λ low high before behind. (low, before, behind);
+      lawful = λ all before. before;
+      read = All-weaker (Contains old) (IsOldOrOf old c.args.records.now) (λ x there. inl there) old (All-contains_itself old);
+      fits = λ fits. fits;
+      steady = refl;
+    }
 
 pub loop-at-preserved : goal.loop-at-preserved
 loop-at-preserved g c =
@@ -105,6 +117,19 @@ loop-at-preserved g c =
                 (All-push IsLawful taken w.in-Some.found so_far
                 (lawful_one taken recs at r c.loop-at-test.true c.index-records-at.is all w.in-Some.found
                 (subst (λ (o : Option Found). IfSome o (IsOf r)) w.in-Some.is c.in_ok-found_in.ensures.is)))
+          ];
+      read =
+          let all = IsOldOrOf c.args.batch.now.items recs in
+          let so_far = c.loop-at.invariant.read in
+          elim c.match-branch-2.branch [
+            | in-None w ↦ subst (λ (xs : List Found). All all xs) (sym (ap (λ v. v.items) w.batch-is)) so_far
+            | in-Some+else-not-has_room+in_ok-put-in-Some w ↦
+                subst (λ (xs : List Found). All all xs) (sym (ap (λ v. v.items) w.batch-is ∙ w.in_ok-put-in-Some.ensures))
+                (All-push all taken w.in-Some.found so_far (inr (record {
+                  r = r;
+                  among = subst (Contains recs) (sym c.index-records-at.is) (Contains-get_or recs at r c.loop-at-test.true);
+                  is = subst (λ (o : Option Found). IfSome o (IsOf r)) w.in-Some.is c.in_ok-found_in.ensures.is;
+                })))
           ];
       fits = λ fits. c.found_in.ensures.fits (c.loop-at.invariant.fits fits);
       steady = c.in_ok-found_in.ensures.steady ∙ c.loop-at.invariant.steady;

@@ -1,6 +1,6 @@
 use Rattle.std.proofs.Common.{◌≡◌, ◌++◌, ℕ, List, drop}
 use Rattle.std.specs.List.{All}
-use Rattle.vl_collect.specs.Batches.{IsLawful, MayMove, Rise, found_place, read_place}
+use Rattle.vl_collect.specs.Batches.{IsLawful, IsOldOrOf, MayMove, Rise, found_place, read_place}
 use Rattle.vl_collect.proofs.Rising.{InFront}
 use Rattle.vl_collect.proofs.take.take_found.Given as goal
 use Rattle.vl_collect.specs.Passing.{HasEntries}
@@ -17,6 +17,7 @@ invariant-loop-at g l = record {
   rises : (low high : ℕ) → Rise found_place 0 l.initial.batch.items low → Rise read_place low (drop l.done l.records) high
       → InFront l.batch.items (drop l.at l.records) high;
   lawful : All MayMove l.records → All IsLawful l.initial.batch.items → All IsLawful l.batch.items;
+  read : All (IsOldOrOf l.initial.batch.items l.records) l.batch.items;
   fits : g.V.Sources.fits l.base l.initial.looks → g.V.Sources.fits l.base l.looks;
   steady : g.V.Sources.faults l.looks ≡ g.V.Sources.faults l.initial.looks;
 }

@@ -1,4 +1,5 @@
 use Rattle.std.proofs.Common.{List, ap, subst, ◌∙◌}
+use Rattle.vl_collect.proofs.Walking.{if_given, not_any}
 use Rattle.vl_collect.proofs.pass.Pass.next.Goals as goal
 use Rattle.vl_collect.specs.Passing.{Walks}
 use Rattle.vl_collect.specs.declared.batch.Found.{Found}
@@ -18,3 +19,9 @@ returns-clause-gives g c = λ p fits is.
         left = w.left;
       };
     }
+
+pub returns-clause-over : goal.returns-clause-over
+returns-clause-over g c = not_any c.walk.new.batch.items _ _ c.of.ensures c.in_ok-at.ensures.over
+
+pub returns-clause-read : goal.returns-clause-read
+returns-clause-read g c = if_given c.walk.new.batch.items _ _ c.of.ensures (c.in_ok-at.ensures.read c.new-batch.ensures.items)

@@ -5,7 +5,8 @@ use Rattle.std.specs.Option.{ForSome}
 use Rattle.vl_collect.proofs.Walking.{Walked}
 use Rattle.vl_collect.proofs.pass.Pass.walk.Given as goal
 use Rattle.vl_collect.specs.Faults.{NoneRose, counted}
-use Rattle.vl_collect.specs.Passing.{EndAt, IsPass}
+use Rattle.vl_collect.specs.Passing.{EndAt, FramesTo, IsPass, IsRead}
+use Rattle.vl_collect.specs.Taking.{candidate_of}
 use Rattle.vl_engine_model.specs.Relocation as layout
 
 abbrev pub invariant-loop-at : goal.invariant-loop-at
@@ -14,6 +15,11 @@ invariant-loop-at g l = record {
       → Walked g.H.HeldFile.bytes l.self.log p l.initial.batch.items l.batch.items l.at;
   ends : ForSome (g.H.HeldFile.bytes l.self.log.held) (λ told. (end : ℕ)
       → EndAt l.self.log.format l.self.log.number told l.self.at.place end → EndAt l.self.log.format l.self.log.number told l.at.place end);
+  leads : ForSome (g.H.HeldFile.bytes l.self.log.held) (λ told. (to : ℕ)
+      → FramesTo l.self.log.format l.self.log.number told l.at.place to → FramesTo l.self.log.format l.self.log.number told l.self.at.place to);
+  read : ForSome (g.H.HeldFile.bytes l.self.log.held) (λ told.
+      All (λ x. IsRead l.self.log.format l.self.log.number told l.self.at.place (candidate_of x)) l.initial.batch.items
+      → All (λ x. IsRead l.self.log.format l.self.log.number told l.self.at.place (candidate_of x)) l.batch.items);
   rises : l.initial.batch.items ≡ [] → (n : ℕ) × Rise found_place 0 l.batch.items n × (l.at.place ≤ n)
       × (l.at.place < 2 ^ 64 - 1 → n ≡ l.at.place);
   lawful : l.initial.batch.items ≡ [] → All IsLawful l.batch.items;
