@@ -1,2 +1,3 @@
+mod LookingBack
 mod ReadingPast
 mod Seeing

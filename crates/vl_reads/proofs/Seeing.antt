@@ -5,7 +5,7 @@ use Rattle.std.specs.FinMap.{get}
 use Rattle.std.specs.Option.{option_map}
 use Rattle.std.proofs.Common.{ap, refl, sym, subst, ◌∙◌}
 use Rattle.vl_disk.specs.declared.name.Name.{Name}
-use Rattle.vl_reads.specs.Reading.{IsFound, IsHandedOn, IsSound, IsTagged, ReadFailed, value_under, written_value}
+use Rattle.vl_reads.specs.Reading.{IfFails, IsFound, IsHandedOn, IsSound, IsTagged, ReadFailed, value_under, written_value}
 use Rattle.vl_reads.specs.Refusing.{as_failed_read}
 use Rattle.vl_reads.specs.Sees.{Sees, SeesAlone, ShowsAt}
 use Rattle.vl_reads.specs.declared.fails.ReadFail.{ReadFail}
@@ -232,3 +232,12 @@ sees_alone_still {H} bytes old new h sees version number past kept = record {
   reader = subst (λ (v : Version H). ReadsOf bytes sees.files new.reader (tables_in v)) (sym version)
       (record { kept = kept; told = sees.reader.told });
 }
+
+-- a fault that is handed on is so as it was
+pub fails_so : {U : Type 0} (P : VersionFault → Type 0) (fault : VersionFault) → P fault
+    → (result : Result U ReadFail) → IsErrAnd result (λ why. why ≡ as_failed_read fault) → IfFails P result
+fails_so P fault is (Ok answer) failed = absurd failed
+fails_so {U = U} P faults.NoMemory is (Err e) failed = subst (λ (f : ReadFail). IfFails {T = U} P (Err f)) (sym failed) tt
+fails_so {U = U} P (faults.Disk name) is (Err e) failed = subst (λ (f : ReadFail). IfFails {T = U} P (Err f)) (sym failed) is
+fails_so {U = U} P (faults.Damaged name place) is (Err e) failed =
+    subst (λ (f : ReadFail). IfFails {T = U} P (Err f)) (sym failed) is

@@ -1,5 +1,5 @@
 -- Reads of the past: from which number on they are answered, and what of a version that needs.
-use Rattle.std.specs.Prelude.{◌≡◌, ◌≤◌, ◌<◌, ℕ, nat_lt, if◌then◌else◌, List, Option, None, Some, Result, Ok, Err}
+use Rattle.std.specs.Prelude.{◌≡◌, ◌≤◌, ◌<◌, ◌+◌, ℕ, nat_lt, min, if◌then◌else◌, List, Option, None, Some, Result, Ok, Err}
 use Rattle.vl_disk.specs.Faults.{HasCause}
 use Rattle.vl_version.specs.LiesOver.{IsInMemory}
 use Rattle.vl_reads.specs.declared.fails.AtFail.{AtFail}
@@ -9,7 +9,7 @@ use Rattle.vl_engine_model.specs.AtAnswer.{Ahead, AtAnswer, Beginning, Dropped, 
 use Rattle.vl_engine_model.specs.Shows.{Shows}
 use Rattle.vl_model.specs.History.{History, last_number}
 use Rattle.vl_model.specs.Keys.{Stored}
-use Rattle.vl_model.specs.Numbers.{low_of}
+use Rattle.vl_model.specs.Numbers.{at_least, low_of}
 use Rattle.vl_model.specs.Versions.{low, versions_in}
 use Rattle.vl_model.specs.Winners.{Logs}
 use Rattle.vl_model.specs.declared.entry.Entry.{Entry}
@@ -19,7 +19,11 @@ use Rattle.vl_table.specs.declared.block_reader.BlockReader.{BlockReader}
 use Rattle.vl_txn.specs.Refusals.{refused_key}
 use Rattle.vl_txn.specs.declared.key_fail.KeyFail.{KeyFail}
 use Rattle.vl_txn.specs.declared.key_fail.KeyFail.TheVariants as keys
-use Rattle.vl_version.specs.Sources.{HasEntries, tables_in}
+use Rattle.vl_version.specs.Answers.{Gives}
+use Rattle.vl_version.specs.Naming.{IsKeyFault}
+use Rattle.vl_version.specs.Over.{LooksOver}
+use Rattle.vl_version.specs.Past.{LooksNth}
+use Rattle.vl_version.specs.Sources.{HasEntries, stored_in, tables_in}
 use Rattle.vl_disk.specs.declared.read_fault.ReadFault.{ReadFault as VersionFault}
 use Rattle.vl_disk.specs.declared.read_fault.ReadFault.TheVariants as fault
 use Rattle.vl_version.specs.declared.version.Version.{Version}
@@ -105,3 +109,67 @@ abbrev pub as_failed_at : VersionFault → AtFail
 as_failed_at fault.NoMemory = why.NoMemory
 as_failed_at (fault.Disk name) = why.Disk name
 as_failed_at (fault.Damaged name place) = why.Damaged name place
+
+-- ---- faults
+
+-- a fault of the version that is handed on is so; all else is free
+abbrev pub IfFailsAt : (VersionFault → Type 0) → Result (Option Stored) AtFail → Type 0
+IfFailsAt P (Ok value) = Unit {0}
+IfFailsAt P (Err why.EmptyKey) = Unit {0}
+IfFailsAt P (Err why.KeyTooLong) = Unit {0}
+IfFailsAt P (Err (why.Ahead number)) = Unit {0}
+IfFailsAt P (Err (why.Dropped least)) = Unit {0}
+IfFailsAt P (Err why.NoMemory) = Unit {0}
+IfFailsAt P (Err (why.Disk name)) = P (fault.Disk name)
+IfFailsAt P (Err (why.Damaged name place)) = P (fault.Damaged name place)
+
+-- a fault is of a table of the version that may hold the key, or of a log
+abbrev pub NamesAt : {H : Type 0} → (H → Option (List ℕ)) → Version H → List ℕ → Result (Option Stored) AtFail → Type 0
+NamesAt bytes version key result = IfFailsAt (IsKeyFault bytes (tables_in version) version.behind.logs.items key) result
+
+-- ---- answers over tables that may not be true
+
+-- What a version answers is handed on, and so are its faults. Want of memory is free.
+abbrev pub IsHandedBack : (Result (Option Stored) VersionFault → Type 0) → Result (Option Stored) AtFail → Type 0
+IsHandedBack answers (Ok value) = answers (Ok value)
+IsHandedBack answers (Err why.EmptyKey) = ⊥
+IsHandedBack answers (Err why.KeyTooLong) = ⊥
+IsHandedBack answers (Err (why.Ahead number)) = ⊥
+IsHandedBack answers (Err (why.Dropped least)) = ⊥
+IsHandedBack answers (Err why.NoMemory) = Unit {0}
+IsHandedBack answers (Err (why.Disk name)) = answers (Err (fault.Disk name))
+IsHandedBack answers (Err (why.Damaged name place)) = answers (Err (fault.Damaged name place))
+
+-- the least number by the oldest version of those that are kept, or the fault at which that wasn't found
+abbrev pub IsLeastBy : Past → (at : ℕ) → (oldest result : Result (Option ℕ) VersionFault) → Type 0
+IsLeastBy past at (Ok oldest) result = result ≡ Ok (if_above at (min past.floor (at_least past.since oldest)))
+IsLeastBy past at (Err e) result = result ≡ Err e
+
+module _ {H : Type 0} (bytes : H → Option (List ℕ)) (version : Version H) (past : Past) (key : List ℕ) (at : ℕ) where
+  -- the versions that are kept were looked up, from the newest that is at most the floor to the oldest, and that gives the least number
+  pub record LooksForOldest (result : Result (Option ℕ) VersionFault) : Type 0 where
+    pub oldest : Result (Option ℕ) VersionFault
+    pub looks : LooksNth bytes version key (past.floor + 1) past.keep oldest
+    pub gives : IsLeastBy past at oldest result
+
+  -- the least number at which the key can be read was looked for, where it is above this one
+  pub record LooksForLeast (result : Result (Option ℕ) VersionFault) : Type 0 where
+    -- from the floor on nothing is dropped,
+    pub above : past.floor ≤ at → result ≡ Ok None
+    -- below it all is where one version is kept,
+    pub alone : at < past.floor → past.keep ≤ 1 → result ≡ Ok (Some past.floor)
+    -- and where more are kept it is by the oldest of these.
+    pub among : at < past.floor → 2 ≤ past.keep → LooksForOldest result
+
+  -- Below the least number a read is refused by it; else the key is looked up at its own number.
+  abbrev pub FollowsLeast : (least : Result (Option ℕ) VersionFault) → Result (Option Stored) AtFail → Type 0
+  FollowsLeast (Ok None) result = IsHandedBack (LooksOver bytes version key at (Gives (stored_in bytes version.behind.logs.items))) result
+  FollowsLeast (Ok (Some least)) result = result ≡ Err (why.Dropped least)
+  FollowsLeast (Err e) result = result ≡ Err (as_failed_at e)
+
+  -- The least number was looked for, and then the key, each in memory and in each table that may have what counts, up to the
+  -- first that fails. So no answer hides a damaged block that had to be read, and none tells of damage elsewhere.
+  pub record LooksBack (result : Result (Option Stored) AtFail) : Type 0 where
+    pub least : Result (Option ℕ) VersionFault
+    pub looks : LooksForLeast least
+    pub follows : FollowsLeast least result

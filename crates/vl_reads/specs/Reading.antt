@@ -19,8 +19,10 @@ use Rattle.vl_txn.specs.Refusals.{refused_bound}
 use Rattle.vl_txn.specs.declared.key_fail.KeyFail.{KeyFail}
 use Rattle.vl_txn.specs.declared.key_fail.KeyFail.TheVariants.{EmptyKey, KeyTooLong}
 use Rattle.vl_version.specs.Answers.{Fills, Gives}
+use Rattle.vl_version.specs.Gathered.{span_of}
+use Rattle.vl_version.specs.Naming.{IsScanFault}
 use Rattle.vl_version.specs.Over.{LooksOver}
-use Rattle.vl_version.specs.Sources.{stored_in}
+use Rattle.vl_version.specs.Sources.{stored_in, tables_in}
 use Rattle.vl_disk.specs.declared.read_fault.ReadFault.{ReadFault as VersionFault}
 use Rattle.vl_disk.specs.declared.read_fault.ReadFault.TheVariants as failed
 use Rattle.vl_version.specs.declared.found.Found.{Found}
@@ -71,6 +73,20 @@ ReadIntoFailed (Err fault.EmptyKey) = ⊥
 ReadIntoFailed (Err fault.KeyTooLong) = ⊥
 ReadIntoFailed (Err (fault.Disk name)) = Unit {0}
 ReadIntoFailed (Err (fault.Damaged name place)) = ⊥
+
+-- a fault of the version that is handed on is so; refusals and want of memory are free
+abbrev pub IfFails : {T : Type 0} → (VersionFault → Type 0) → Result T ReadFail → Type 0
+IfFails P (Ok answer) = Unit {0}
+IfFails P (Err why.EmptyKey) = Unit {0}
+IfFails P (Err why.KeyTooLong) = Unit {0}
+IfFails P (Err why.NoMemory) = Unit {0}
+IfFails P (Err (why.Disk name)) = P (failed.Disk name)
+IfFails P (Err (why.Damaged name place)) = P (failed.Damaged name place)
+
+-- a fault of a scan is of a table of the version whose range meets the interval, or of a log
+abbrev pub NamesScanned : {H T : Type 0} → (H → Option (List ℕ)) → Version H → (low high : List ℕ) → Result T ReadFail → Type 0
+NamesScanned bytes version low high result =
+    IfFails (IsScanFault bytes (span_of low high) (tables_in version) version.behind.logs.items) result
 
 -- damage was met
 abbrev pub MetDamage : {T : Type 0} → Result T ReadFail → Type 0

@@ -5,10 +5,12 @@ mod FrozenLaws
 mod GatherLaws
 mod LogLaws
 mod LookLaws
+mod NamingLaws
 mod NearLaws
 mod looking
 mod marking
 mod NewestLaws
+mod NthLaws
 mod OldestLaws
 mod OverLaws
 mod OwnLaws

@@ -39,7 +39,7 @@ module _ {H : Type 0} (R : Type 0) (g : HeldFile.Ghosts H) (k : Clone.Ghosts H) 
   told_runs [] = refl
   told_runs (run ∷ runs) = ap (λ l. Some run ∷ l) (told_runs runs)
 
-  sound_runs : (runs : List (List Entry)) (fault : ReadFault)
+  pub sound_runs : (runs : List (List Entry)) (fault : ReadFault)
       → OneMayFail (λ (source : Source H R g k) (why : ReadFault). SourceMayFail bytes_of source why) (map (λ run. Held run) runs) fault
       → fault ≡ NoMemory
   sound_runs [] fault one = absurd one

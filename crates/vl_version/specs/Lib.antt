@@ -6,6 +6,7 @@ pub mod Gathered
 pub mod Gives
 pub mod levels
 pub mod LiesOver
+pub mod Naming
 pub mod Near
 pub mod Needed
 pub mod Newest

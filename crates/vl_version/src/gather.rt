@@ -5,8 +5,11 @@ ghost use Rattle.std.specs.FinMap.{entries};
 ghost use Rattle.vl_model.specs.Cutting.{joined};
 ghost use Rattle.vl_model.specs.Reads.{bound};
 ghost use Rattle.vl_model.specs.declared.entry.Entry.{Entry};
+ghost use Rattle.vl_model.specs.declared.span.Span.{Span};
 ghost use Rattle.vl_table.specs.OfTables.{AreOf};
+ghost use Rattle.vl_table.specs.declared.table.Table.{Table};
 ghost use Rattle.vl_version.specs.Gathered.{Adds, IsQuiet, TellWinners, span_of};
+ghost use Rattle.vl_version.specs.Naming.{FailWithin};
 ghost use Rattle.vl_version.specs.Own.{own_entries};
 ghost use Rattle.vl_version.specs.Sources.{held_entries};
 ghost use Rattle.vl_version.specs.declared.source.Source.TheVariants as source;
@@ -41,6 +44,8 @@ pub fn sources_within<'a, H: HeldFile, R: Reader<Held = H> + Drop>(
         (own_entries number (entries own.now) ++ ((active.now.entries ++ held_entries behind.now.frozen.items) ++ joined tabled))
         sources.items) }
     ensures quiet { IfOk result (λ sources. tables_of behind.now.levels ≡ [] → IsQuiet H.bytes sources.items) }
+    ensures faults { IfOk result (λ sources.
+        FailWithin H.bytes (span_of wanted.entry.low.now wanted.entry.high.now) (tables_of behind.now.levels) sources.items) }
 {
     let span = span_of(alloc, wanted.low, wanted.high)?;
     let mut sources = own_source(alloc, own, wanted, number)?;
@@ -61,6 +66,7 @@ fn own_source<'a, H: HeldFile, R: Drop>(
         TellWinners H.bytes (span_of wanted.entry.low.now wanted.entry.high.now) wanted.entry.way
         (own_entries number (entries own.now)) sources.items) }
     ensures quiet { IfOk result (λ sources. IsQuiet H.bytes sources.items) }
+    ensures faults { IfOk result (λ sources. (span : Span) → FailWithin H.bytes span [] sources.items) }
 {
     let writes = OwnCursor::within(own.as_slice(), wanted.low, wanted.high, wanted.way, number);
     let mut sources = Vec::new(alloc);
@@ -77,6 +83,8 @@ fn add_memtable<'a, H: HeldFile, R: Drop>(
 ) -> Result<(), AllocError>
     ensures winners { OnOk result (Adds H.bytes span.now way memtable.now.entries sources.old.items sources.new.items) }
     ensures quiet { OnOk result (IsQuiet H.bytes sources.old.items → IsQuiet H.bytes sources.new.items) }
+    ensures faults { OnOk result ((before : List (Table H)) → FailWithin H.bytes span.now before sources.old.items
+        → FailWithin H.bytes span.now before sources.new.items) }
 {
     add_runs(sources, memtable.cursors_within(span, way)?)
 }
@@ -102,6 +110,8 @@ fn add_frozen<'a, H: HeldFile, R: Drop>(
 ) -> Result<(), AllocError>
     ensures winners { OnOk result (Adds H.bytes span.now way (held_entries frozen.now) sources.old.items sources.new.items) }
     ensures quiet { OnOk result (IsQuiet H.bytes sources.old.items → IsQuiet H.bytes sources.new.items) }
+    ensures faults { OnOk result ((before : List (Table H)) → FailWithin H.bytes span.now before sources.old.items
+        → FailWithin H.bytes span.now before sources.new.items) }
 {
     for log in frozen {
         add_memtable(sources, log.memtable.memtable(), span, way)?;

@@ -1,6 +1,6 @@
 //! What the body of an entry leads to, in memory or in a log.
 
-ghost use Rattle.std.specs.Prelude.{◌≡◌, IfSome, Some, IsErrOf};
+ghost use Rattle.std.specs.Prelude.{◌≡◌, IfErr, IfSome, Some, IsErrOf};
 ghost use Rattle.std.specs.Option.{option_copied};
 ghost use Rattle.vl_disk.specs.Faults.{HasCause};
 ghost use Rattle.vl_disk.specs.declared.name.Name.TheVariants as names;
@@ -8,6 +8,7 @@ ghost use Rattle.vl_table.specs.body.Founds.{found_of};
 ghost use Rattle.vl_model.specs.Keys.{Stored};
 ghost use Rattle.vl_version.specs.Answers.{Fills, Gives, IsFound};
 ghost use Rattle.vl_version.specs.Faults.{Failed};
+ghost use Rattle.vl_version.specs.Naming.{IsLogFault, IsLogOf};
 ghost use Rattle.vl_version.specs.Near.{IsNear, IsNearEntry};
 ghost use Rattle.vl_version.specs.Newest.{newest_entry};
 ghost use Rattle.vl_version.specs.Sources.{AreRising, AreTold, log_in, stored_in};
@@ -33,6 +34,7 @@ pub fn resolve_newest<H: HeldFile, R: Reader<Held = H>>(
     ensures cause { HasCause (R.faults reader.old) (R.faults reader.new) (Failed result) }
     ensures near { IfSome (newest_entry key.now newest.entry) IsNearEntry → Failed result → ⊥ }
     ensures answers { AreTold H.bytes logs.now → Gives (stored_in H.bytes logs.now) (newest_entry key.now newest.entry) result }
+    ensures fault { IfErr result (IsLogFault logs.now) }
 {
     match newest {
         Newest::None => Ok(None),
@@ -72,6 +74,7 @@ pub fn resolve<H: HeldFile, R: Reader<Held = H>>(
     ensures cause { HasCause (R.faults reader.old) (R.faults reader.new) (Failed result) }
     ensures near { IsNear entry.now.body → Failed result → ⊥ }
     ensures answers { AreTold H.bytes logs.now → Gives (stored_in H.bytes logs.now) (Some entry.now) result }
+    ensures fault { IfErr result (IsLogFault logs.now) }
 {
     match &entry.body {
         Body::Inline(value) => Ok(Some(value.share()?)),
@@ -117,6 +120,7 @@ fn resolve_found<H: HeldFile, R: Reader<Held = H>>(
     ensures near { IsNearEntry (found_of key.now found.now) → Failed result → ⊥ }
     ensures answers { AreTold H.bytes logs.now
         → Gives (stored_in H.bytes logs.now) (Some (found_of key.now found.now)) result }
+    ensures fault { IfErr result (IsLogFault logs.now) }
 {
     match &found.body {
         FoundBody::Inline(value) => {
@@ -173,6 +177,7 @@ fn read_far<H: HeldFile, R: Reader<Held = H>>(
 ) -> Result<Value, ReadFault>
     ensures cause { HasCause (R.faults reader.old) (R.faults reader.new) (Failed result) }
     ensures answers { AreTold H.bytes logs.now → GivesFar (stored_in H.bytes logs.now pointer key.now) pointer result }
+    ensures fault { IfErr result (IsLogFault logs.now) }
 {
     let Some(log) = log_of(logs, pointer.segment) else {
         return Err(nothing_at(pointer));
@@ -206,6 +211,7 @@ fn read_far_into<H: HeldFile, R: Reader<Held = H>>(
 pub fn log_of<H: HeldFile>(logs: &[SealedLog<H>], number: u32) -> Option<&SealedLog<H>>
     ensures found { AreRising logs.now → option_copied result ≡ log_in logs.now number }
     ensures number { IfSome result (λ log. log.now.number ≡ number) }
+    ensures among { IfSome result (λ log. IsLogOf logs.now (names.Log log.now.number)) }
 {
     let at = logs.partition_point(|log| log.number < number);
     match logs.get(at) {

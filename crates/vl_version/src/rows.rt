@@ -1,12 +1,13 @@
 //! The rows of a scan.
 
-ghost use Rattle.std.specs.Prelude.{◌≡◌, ◌⊎◌, List, Some, false, take, drop, OnOk};
+ghost use Rattle.std.specs.Prelude.{◌≡◌, ◌⊎◌, List, Some, false, take, drop, IfErr, OnOk};
 ghost use Rattle.std.specs.List.{AllByRecursion};
 ghost use Rattle.vl_disk.specs.Faults.{HasCause};
 ghost use Rattle.vl_model.specs.declared.entry.Entry.{Entry};
 ghost use Rattle.vl_version.specs.Answers.{IsAnswer, IsAstray};
 ghost use Rattle.vl_version.specs.Faults.{Failed};
 ghost use Rattle.vl_version.specs.Gives.{is_disk_fault};
+ghost use Rattle.vl_version.specs.Naming.{IsLogFault};
 ghost use Rattle.vl_version.specs.Near.{AreNear, IsNear};
 ghost use Rattle.vl_version.specs.Rows.{AreRowsOf, IsKept, OneAstray, PushesRow};
 ghost use Rattle.vl_version.specs.Sources.{AreTold, stored_in};
@@ -38,6 +39,7 @@ pub fn take_rows<H: HeldFile, R: Reader<Held = H>, C: Cursor<Fault = ReadFault, 
         ⊎ OneAstray (stored_in H.bytes logs.now) left name place) result }
     ensures no_further { AreTold H.bytes logs.now → (left : List Entry) → C.left entries.old ≡ Some left → AllByRecursion IsKept left
         → OnOk result (C.left entries.new ≡ Some (drop limit left)) }
+    ensures fault { IfErr result (λ fault. C.may_fail entries.old fault ⊎ IsLogFault logs.now fault) }
 {
     let mut rows = Vec::new(alloc);
     'taking: while rows.len() < limit as usize {
@@ -62,6 +64,7 @@ fn push_row<H: HeldFile, R: Reader<Held = H>>(
     ensures answers { AreTold H.bytes logs.now → IsKept entry
         → IsAnswer (λ _. PushesRow (stored_in H.bytes logs.now) entry rows.old.items rows.new.items)
         (IsAstray (stored_in H.bytes logs.now) (Some entry)) result }
+    ensures fault { IfErr result (IsLogFault logs.now) }
 {
     let value = resolve(alloc, reader, logs, &entry)?;
     let Entry { key, .. } = entry;

@@ -1,4 +1,4 @@
-ghost use Rattle.std.specs.Prelude.{◌≡◌, ◌++◌, ◌<◌, [], List, length, reverse, IfOk, IsErrOf};
+ghost use Rattle.std.specs.Prelude.{◌≡◌, ◌++◌, ◌<◌, [], List, length, reverse, IfErr, IfOk, IsErrOf};
 ghost use Rattle.vl_disk.specs.Faults.{HasCause};
 ghost use Rattle.vl_memtable.specs.Contents.{IsNewTo};
 ghost use Rattle.vl_memtable.specs.Lengths.{lengths_with};
@@ -10,6 +10,8 @@ ghost use Rattle.vl_version.specs.Answers.{Fills, Gives, IsAnswer};
 ghost use Rattle.vl_table.specs.Kept.{Files};
 ghost use Rattle.vl_table.specs.KeptBlocks.{AreKept, ReadsOf};
 ghost use Rattle.vl_version.specs.Faults.{Failed};
+ghost use Rattle.vl_version.specs.Gathered.{span_of};
+ghost use Rattle.vl_version.specs.Naming.{IsKeyFault, IsScanFault};
 ghost use Rattle.vl_version.specs.Near.{AreNear};
 ghost use Rattle.vl_version.specs.Over.{LooksOver};
 ghost use Rattle.vl_version.specs.Scans.{AreScanned, SomeAstray};
@@ -133,6 +135,10 @@ impl<H: HeldFile> Version<H> {
         ensures looks { (files : Files) → ReadsOf H.bytes files reader.old (tables_in self.now) → AreLaidOut self.now.behind.levels
             → AreTold H.bytes self.now.behind.logs.items
             → LooksOver H.bytes self.now key.now number (Gives (stored_in H.bytes self.now.behind.logs.items)) result }
+
+        // A fault is of a table that may hold the key, or of a log.
+        ensures fault { (files : Files) → ReadsOf H.bytes files reader.old (tables_in self.now)
+            → IfErr result (IsKeyFault H.bytes (tables_in self.now) self.now.behind.logs.items key.now) }
     {
         let behind = self.behind.as_ref();
         let held = self.find_held(key, number);
@@ -184,6 +190,10 @@ impl<H: HeldFile> Version<H> {
         ensures kept { reader.new ≡ record reader.old { reader = reader.new.reader } }
         ensures answers { (es : List Entry) (logs : Logs) → HasEntries H.bytes self.now es logs
             → IsAnswer (λ rows. AreScanned logs es number wanted.entry own.now rows.items) (SomeAstray logs es number) result }
+
+        // A fault is of a table whose range meets the interval, or of a log, also if the tables aren't true.
+        ensures fault { IfErr result (IsScanFault H.bytes (span_of wanted.entry.low.now wanted.entry.high.now) (tables_in self.now)
+            self.now.behind.logs.items) }
     {
         merge_of_told_sources();
         visible_entries_are_the_winners();

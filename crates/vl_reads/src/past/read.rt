@@ -1,10 +1,15 @@
 //! Reads of the past.
 
-ghost use Rattle.std.specs.Prelude.{◌≡◌, min};
-ghost use Rattle.vl_reads.specs.Past.{ReadsPast, if_above};
+ghost use Rattle.std.specs.Prelude.{◌≡◌, min, IfErr};
+ghost use Rattle.vl_reads.specs.Past.{IsWithin, LooksBack, LooksForLeast, NamesAt, ReadsPast, if_above};
 ghost use Rattle.vl_model.specs.Numbers.{at_least, low_of};
 ghost use Rattle.vl_model.specs.Versions.{versions_in};
+ghost use Rattle.vl_table.specs.Kept.{Files};
+ghost use Rattle.vl_table.specs.KeptBlocks.{ReadsOf};
+ghost use Rattle.vl_version.specs.LiesOver.{LiesOver};
+ghost use Rattle.vl_version.specs.Naming.{IsAskedFault};
 ghost use Rattle.vl_version.specs.Past.{SeeksVersion};
+ghost use Rattle.vl_version.specs.Sources.{tables_in};
 
 use crate::AtFail;
 use crate::past::Past;
@@ -25,7 +30,11 @@ pub fn read_past<H: HeldFile, R: Reader<Held = H> + Drop>(
     key: &[u8],
     at: u64,
 ) -> Result<Option<Value>, AtFail>
-    ensures { ReadsPast H.bytes R.faults version.now past number key.now at reader.old reader.new result }
+    ensures reads { ReadsPast H.bytes R.faults version.now past number key.now at reader.old reader.new result }
+    ensures looks { (files : Files) → LiesOver H.bytes files version.now reader.old → IsWithin number key.now at
+        → LooksBack H.bytes version.now past key.now at result }
+    ensures fault { (files : Files) → ReadsOf H.bytes files reader.old (tables_in version.now)
+        → NamesAt H.bytes version.now key.now result }
 {
     check_key(key)?;
     if at > number {
@@ -45,8 +54,12 @@ fn low_above<H: HeldFile, R: Reader<Held = H>>(
     key: &[u8],
     at: u64,
 ) -> Result<Option<u64>, ReadFault>
-    ensures { SeeksVersion H.bytes R.faults version.now
+    ensures seeks { SeeksVersion H.bytes R.faults version.now
         (λ es. if_above at (low_of (versions_in es key.now) past.floor past.keep past.since)) reader.old reader.new result }
+    ensures looks { (files : Files) → LiesOver H.bytes files version.now reader.old
+        → LooksForLeast H.bytes version.now past key.now at result }
+    ensures fault { (files : Files) → ReadsOf H.bytes files reader.old (tables_in version.now)
+        → IfErr result (IsAskedFault H.bytes (tables_in version.now) key.now) }
 {
     // No key is dropped from the floor on.
     if at >= past.floor {

@@ -2,10 +2,10 @@ ghost use Rattle.std.specs.Prelude.{◌≡◌, ◌≤◌, ◌++◌, ◌∷◌, [
 ghost use Rattle.std.specs.FinMap.{get};
 ghost use Rattle.std.specs.Option.{option_map};
 ghost use Rattle.vl_disk.specs.Faults.{HasCause};
-ghost use Rattle.vl_reads.specs.Past.{AtFailed, IsAnsweredAt, IsRefusedAt, beginning};
+ghost use Rattle.vl_reads.specs.Past.{AtFailed, IsAnsweredAt, IsRefusedAt, IsWithin, LooksBack, NamesAt, beginning};
 ghost use Rattle.vl_reads.specs.Reading.{IsOwn, IsRefusedBy, IsSound, LooksUp, LooksUpTagged};
 ghost use Rattle.vl_version.specs.LiesOver.{IsInMemory, LiesOver};
-ghost use Rattle.vl_reads.specs.Reading.{NotesNothing, OnlyNotes, ReadFailed, refused_bounds, rows_under};
+ghost use Rattle.vl_reads.specs.Reading.{NamesScanned, NotesNothing, OnlyNotes, ReadFailed, refused_bounds, rows_under};
 ghost use Rattle.vl_reads.specs.Reading.{tagged_under, value_under, with_its_tag, written_value};
 ghost use Rattle.vl_reads.specs.Sees.{Sees};
 ghost use Rattle.vl_engine_model.specs.AtAnswer.{at_answer};
@@ -109,6 +109,9 @@ impl<H: HeldFile, R: Reader<Held = H> + Drop> Txn<H, R> {
         ensures cause { HasCause (R.faults self.old.reader.reader) (R.faults self.new.reader.reader) (ReadFailed result) }
         ensures near { IsInMemory self.old.version → ReadFailed result → ⊥ }
         ensures sound { (h : History) (reads : List Read) → Sees H.bytes self.old h reads → IsSound result }
+
+        // A fault is of a table whose range meets the interval, or of a log, also if the tables aren't true.
+        ensures fault { NamesScanned H.bytes self.old.version low.now high.now result }
         ensures blocks { (files : Files) → ReadsOf H.bytes files self.old.reader (tables_in self.old.version)
             → ReadsOf H.bytes files self.new.reader (tables_in self.new.version) }
     {
@@ -142,6 +145,13 @@ impl<H: HeldFile, R: Reader<Held = H> + Drop> Txn<H, R> {
         ensures still { (h : History) (reads : List Read) → Sees H.bytes self.old h reads → Sees H.bytes self.new h reads }
         ensures cause { HasCause (R.faults self.old.reader.reader) (R.faults self.new.reader.reader) (AtFailed result) }
         ensures near { IsInMemory self.old.version → AtFailed result → ⊥ }
+
+        // Also where the tables aren't true, no damage is hidden or made up: of the value, and of what decides on the least number.
+        ensures looks { (files : Files) → LiesOver H.bytes files self.old.version self.old.reader
+            → IsWithin self.old.number key.now number
+            → LooksBack H.bytes self.old.version self.old.past key.now number result }
+        ensures fault { (files : Files) → ReadsOf H.bytes files self.old.reader (tables_in self.old.version)
+            → NamesAt H.bytes self.old.version key.now result }
         ensures blocks { (files : Files) → ReadsOf H.bytes files self.old.reader (tables_in self.old.version)
             → ReadsOf H.bytes files self.new.reader (tables_in self.new.version) }
     {

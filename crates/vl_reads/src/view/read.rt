@@ -1,10 +1,10 @@
 ghost use Rattle.std.specs.Prelude.{◌≡◌, ◌≤◌, IfOk, IsErr, None};
 ghost use Rattle.std.specs.FinMap.{empty};
 ghost use Rattle.vl_disk.specs.Faults.{HasCause};
-ghost use Rattle.vl_reads.specs.Past.{AtFailed, IsAnsweredAt, IsRefusedAt, beginning};
+ghost use Rattle.vl_reads.specs.Past.{AtFailed, IsAnsweredAt, IsRefusedAt, IsWithin, LooksBack, NamesAt, beginning};
 ghost use Rattle.vl_reads.specs.Reading.{IsFound, IsRefusedBy, IsRefusedInto, IsSound, IsSoundInto};
 ghost use Rattle.vl_version.specs.LiesOver.{IsInMemory};
-ghost use Rattle.vl_reads.specs.Reading.{LooksUp, LooksUpInto, LooksUpTagged, OnlyReads, ReadFailed};
+ghost use Rattle.vl_reads.specs.Reading.{LooksUp, LooksUpInto, LooksUpTagged, NamesScanned, OnlyReads, ReadFailed};
 ghost use Rattle.vl_version.specs.LiesOver.{LiesOver};
 ghost use Rattle.vl_reads.specs.Reading.{ReadIntoFailed, refused_bounds, rows_under, with_its_tag};
 ghost use Rattle.vl_reads.specs.Sees.{SeesAlone};
@@ -116,6 +116,13 @@ impl<H: HeldFile, R: Reader<Held = H> + Drop> View<H, R> {
         ensures still { (h : History) → SeesAlone H.bytes self.old h → SeesAlone H.bytes self.new h }
         ensures cause { HasCause (R.faults self.old.reader.reader) (R.faults self.new.reader.reader) (AtFailed result) }
         ensures near { IsInMemory self.old.version → AtFailed result → ⊥ }
+
+        // Also where the tables aren't true, no damage is hidden or made up: of the value, and of what decides on the least number.
+        ensures looks { (files : Files) → LiesOver H.bytes files self.old.version self.old.reader
+            → IsWithin self.old.number key.now number
+            → LooksBack H.bytes self.old.version self.old.past key.now number result }
+        ensures fault { (files : Files) → ReadsOf H.bytes files self.old.reader (tables_in self.old.version)
+            → NamesAt H.bytes self.old.version key.now result }
         ensures blocks { (files : Files) → ReadsOf H.bytes files self.old.reader (tables_in self.old.version)
             → ReadsOf H.bytes files self.new.reader (tables_in self.new.version) }
     {
@@ -141,6 +148,9 @@ impl<H: HeldFile, R: Reader<Held = H> + Drop> View<H, R> {
         ensures cause { HasCause (R.faults self.old.reader.reader) (R.faults self.new.reader.reader) (ReadFailed result) }
         ensures near { IsInMemory self.old.version → ReadFailed result → ⊥ }
         ensures sound { (h : History) → SeesAlone H.bytes self.old h → IsSound result }
+
+        // A fault is of a table whose range meets the interval, or of a log, also if the tables aren't true.
+        ensures fault { NamesScanned H.bytes self.old.version low.now high.now result }
         ensures blocks { (files : Files) → ReadsOf H.bytes files self.old.reader (tables_in self.old.version)
             → ReadsOf H.bytes files self.new.reader (tables_in self.new.version) }
     {

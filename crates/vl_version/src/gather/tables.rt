@@ -1,11 +1,13 @@
 //! The tables of a scan: those whose ranges meet its interval.
 
-ghost use Rattle.std.specs.Prelude.{◌≡◌, ◌++◌, [], List, IfOk, OnOk};
+ghost use Rattle.std.specs.Prelude.{◌≡◌, ◌++◌, ◌∷◌, [], List, IfOk, OnOk};
 ghost use Rattle.vl_model.specs.Cutting.{joined};
 ghost use Rattle.vl_model.specs.declared.entry.Entry.{Entry};
 ghost use Rattle.vl_table.specs.OfTables.{AreOf};
 ghost use Rattle.vl_table.specs.Tables.{IsOf};
+ghost use Rattle.vl_table.specs.declared.table.Table.{Table};
 ghost use Rattle.vl_version.specs.Gathered.{Adds, HaveWithin};
+ghost use Rattle.vl_version.specs.Naming.{AddFaults, MeetFaults};
 ghost use Rattle.vl_version.specs.levels.LevelTables.{AreAllApart, AreApart, all_tables};
 ghost use Rattle.vl_version.specs.levels.LevelsLooked.{AreInOrder, tables_of};
 
@@ -28,6 +30,7 @@ pub fn add_levels<'a, H: HeldFile, R: Reader<Held = H> + Drop>(
     ensures winners { OnOk result ((tabled : List (List Entry)) → AreOf H.bytes (tables_of levels.now) tabled
         → AreInOrder levels.now → Adds H.bytes span.now way (joined tabled) sources.old.items sources.new.items) }
     ensures quiet { OnOk result (tables_of levels.now ≡ [] → sources.new.items ≡ sources.old.items) }
+    ensures faults { OnOk result (AddFaults H.bytes span.now (tables_of levels.now) sources.old.items sources.new.items) }
 {
     add_newest(alloc, sources, levels.newest(), span, way)?;
     add_deeper(alloc, sources, levels.deeper(), span, way)
@@ -44,6 +47,7 @@ fn add_newest<'a, H: HeldFile, R: Reader<Held = H> + Drop>(
     ensures winners { OnOk result ((tabled : List (List Entry)) → AreOf H.bytes tables.now tabled
         → Adds H.bytes span.now way (joined tabled) sources.old.items sources.new.items) }
     ensures quiet { OnOk result (tables.now ≡ [] → sources.new.items ≡ sources.old.items) }
+    ensures faults { OnOk result (AddFaults H.bytes span.now tables.now sources.old.items sources.new.items) }
 {
     for at in 0..tables.len() {
         add_tables(alloc, sources, &tables[at..at + 1], span, way)?;
@@ -62,6 +66,7 @@ fn add_deeper<'a, H: HeldFile, R: Reader<Held = H> + Drop>(
     ensures winners { OnOk result ((tabled : List (List Entry)) → AreOf H.bytes (all_tables levels.now) tabled
         → AreAllApart levels.now → Adds H.bytes span.now way (joined tabled) sources.old.items sources.new.items) }
     ensures quiet { OnOk result (all_tables levels.now ≡ [] → sources.new.items ≡ sources.old.items) }
+    ensures faults { OnOk result (AddFaults H.bytes span.now (all_tables levels.now) sources.old.items sources.new.items) }
 {
     for level in levels {
         add_tables(alloc, sources, level.as_slice(), span, way)?;
@@ -80,6 +85,7 @@ fn add_tables<'a, H: HeldFile, R: Reader<Held = H> + Drop>(
     ensures winners { OnOk result ((tabled : List (List Entry)) → AreOf H.bytes tables.now tabled → AreApart tables.now
         → Adds H.bytes span.now way (joined tabled) sources.old.items sources.new.items) }
     ensures quiet { OnOk result (tables.now ≡ [] → sources.new.items ≡ sources.old.items) }
+    ensures faults { OnOk result (AddFaults H.bytes span.now tables.now sources.old.items sources.new.items) }
 {
     let met = meeting(alloc, tables, span)?;
     if met.is_empty() {
@@ -99,6 +105,7 @@ fn meeting<H: HeldFile>(
     ensures have { IfOk result (λ met. (tabled : List (List Entry)) → AreOf H.bytes tables.now tabled
         → HaveWithin H.bytes span.now (joined tabled) met.items) }
     ensures none { IfOk result (λ met. tables.now ≡ [] → met.items ≡ []) }
+    ensures faults { IfOk result (λ met. MeetFaults H.bytes span.now tables.now met.items) }
 {
     let mut met = Vec::new(alloc);
     for table in tables {
@@ -113,8 +120,10 @@ fn add_if_met<H: HeldFile>(
     table: &Table<H>,
     span: &Span,
 ) -> Result<(), AllocError>
-    ensures { OnOk result ((es fs : List Entry) → HaveWithin H.bytes span.now es met.old.items → IsOf H.bytes table.now fs
+    ensures have { OnOk result ((es fs : List Entry) → HaveWithin H.bytes span.now es met.old.items → IsOf H.bytes table.now fs
         → HaveWithin H.bytes span.now (es ++ fs) met.new.items) }
+    ensures faults { OnOk result ((before : List (Table H)) → MeetFaults H.bytes span.now before met.old.items
+        → MeetFaults H.bytes span.now (before ++ table.now ∷ []) met.new.items) }
 {
     if !table.meets(span) {
         return Ok(());

@@ -11,6 +11,7 @@ pub loop-log-init : goal.loop-log-init
 loop-log-init g c = record {
   adds = adds_none g.H.HeldFile.bytes c.args.span.now c.args.way c.args.sources.now.items;
   quiet = λ quiet. quiet;
+  faults = λ before fail. fail;
 }
 
 pub loop-log-preserved : goal.loop-log-preserved
@@ -29,6 +30,7 @@ loop-log-preserved g c =
           c.add_memtable.new.sources.items)
           c.memtable.ensures c.in_ok-add_memtable.ensures.winners));
       quiet = λ quiet. c.in_ok-add_memtable.ensures.quiet (c.loop-log.invariant.quiet quiet);
+      faults = λ before fail. c.in_ok-add_memtable.ensures.faults before (c.loop-log.invariant.faults before fail);
     }
 
 pub returns-clause-winners : goal.returns-clause-winners
@@ -36,3 +38,6 @@ returns-clause-winners g c =
     adds_as g.H.HeldFile.bytes c.args.span.now c.args.way (held_entries (take c.loop-log.log-index c.args.frozen.now))
     (held_entries c.args.frozen.now) c.args.sources.now.items c.loop-log.sources.items
     (ap held_entries (take_all c.loop-log.log-index c.args.frozen.now c.loop-log-test.false)) c.loop-log.invariant.adds
+
+pub returns-clause-faults : goal.returns-clause-faults
+returns-clause-faults g c = c.loop-log.invariant.faults

@@ -1,4 +1,4 @@
-use Rattle.std.proofs.Common.{◌++◌, sym, subst, List}
+use Rattle.std.proofs.Common.{◌++◌, [], sym, subst, List}
 use Rattle.std.specs.FinMap.{entries}
 use Rattle.vl_model.specs.Cutting.{joined}
 use Rattle.vl_memtable.specs.declared.frozen_log.FrozenLog.{FrozenLog}
@@ -7,6 +7,8 @@ use Rattle.vl_version.specs.Gathered.{Adds, IsQuiet}
 use Rattle.vl_version.specs.Own.{own_entries}
 use Rattle.vl_version.specs.Sources.{held_entries}
 use Rattle.vl_version.proofs.Telling.{adds_then}
+use Rattle.vl_version.specs.Naming.{FailWithin}
+use Rattle.vl_version.specs.levels.LevelsLooked.{tables_of}
 use Rattle.vl_version.proofs.gather.sources_within.Goals as goal
 
 pub returns-clause-winners : goal.returns-clause-winners
@@ -31,3 +33,11 @@ pub returns-clause-quiet : goal.returns-clause-quiet
 returns-clause-quiet g c none =
     subst (IsQuiet g.H.HeldFile.bytes) (sym (c.in_ok-add_levels.ensures.quiet none))
     (c.in_ok-add_frozen.ensures.quiet (c.in_ok-add_memtable.ensures.quiet c.in_ok-sources.ensures.quiet))
+
+pub returns-clause-faults : goal.returns-clause-faults
+returns-clause-faults g c =
+    let span = c.in_ok-span.span in
+    subst (λ (s : Span). FailWithin g.H.HeldFile.bytes s (tables_of c.args.behind.now.levels) c.add_levels.new.sources.items)
+    c.in_ok-span.ensures
+    (c.in_ok-add_levels.ensures.faults []
+    (c.in_ok-add_frozen.ensures.faults [] (c.in_ok-add_memtable.ensures.faults [] (c.in_ok-sources.ensures.faults span))))

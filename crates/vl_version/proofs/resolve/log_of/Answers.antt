@@ -3,6 +3,7 @@ use Rattle.std.proofs.lemmas.List.Sorted.{IsPartitionPoint-from_clause}
 use Rattle.std.specs.Option.{option_copied}
 use Rattle.vl_model.specs.laws.Places.{parted_at, point-prefix, slice_get-lent, slice_get-prefix}
 use Rattle.vl_version.proofs.LogLaws.{if_number, if_number-other, if_number-same, is_lower, log_in-place, rising-parted}
+use Rattle.vl_version.proofs.NamingLaws.{log_among}
 use Rattle.vl_version.proofs.resolve.log_of.Goals as goal
 use Rattle.vl_version.proofs.resolve.log_of.Goals.{in_default-via-in-Some+else-log-number, in_default-via-in_default}
 
@@ -35,3 +36,9 @@ returns-in_default-clause-found g c rising =
           ∙ ap (λ r. if_number number (option_copied r)) (sym w.in-Some.is) ∙ is
       | in_default-via-in_default w ↦ ap (λ r. if_number number (option_copied r)) (sym w.in_default.is) ∙ is
     ]
+
+pub returns-in-Some-clause-among : goal.returns-in-Some-clause-among
+returns-in-Some-clause-among g c =
+    let logs = c.args.logs.now in
+    log_among logs _ c.in-Some.log.now
+    (sym (slice_get-lent logs _ c.get.result c.get.ensures.lookup) ∙ ap option_copied c.in-Some.is)

@@ -1,4 +1,4 @@
-use Rattle.std.proofs.Common.{ap, sym, subst, ◌∙◌, arith, inr, refl, take, Vec, Global}
+use Rattle.std.proofs.Common.{ap, sym, subst, ◌∙◌, arith, inl, inr, refl, take, Vec, Global}
 use Rattle.std.specs.Prelude.{◌⊎◌, Err, List, Option, Result, Some}
 use Rattle.std.proofs.lemmas.Result.{err_from_is_err_and}
 use Rattle.vl_model.specs.Cursors.{Gives}
@@ -11,6 +11,8 @@ use Rattle.vl_disk.specs.declared.read_fault.ReadFault.{ReadFault}
 use Rattle.vl_disk.specs.declared.read_fault.ReadFault.TheVariants.{Damaged}
 use Rattle.vl_version.proofs.TakeLaws.{TakesFront, astray_next, err_answer, leaves_near, next_kept, takes_all}
 use Rattle.vl_version.proofs.TakeLaws.{takes_end, takes_next, takes_none}
+use Rattle.vl_version.specs.Naming.{IsLogFault}
+use Rattle.vl_version.proofs.NamingLaws.{err_is}
 use Rattle.vl_version.proofs.rows.take_rows.Goals as goal
 
 pub returns-in_default-clause-answers : goal.returns-in_default-clause-answers
@@ -95,3 +97,17 @@ returns-clause-no_further g c told left is kept =
     let at = g.C.Cursor.left c.taking.entries in
     (takes_all (stored_in g.H.HeldFile.bytes c.args.logs.now) left at at c.taking.rows.items c.args.limit
     (c.taking.invariant.taken told left is kept) (omega arith)).1
+
+pub returns-in_err-entry-clause-fault : goal.returns-in_err-entry-clause-fault
+returns-in_err-entry-clause-fault g c =
+    let p = err_from_is_err_and c.from_residual.result c.from_residual.ensures.1 in
+    err_is {T = Vec Row Global} (λ (fault : ReadFault). g.C.Cursor.may_fail c.args.entries.now fault
+    ⊎ IsLogFault c.args.logs.now fault) c.in_err-entry.field-0.0 c.from_residual.result
+    (p.1 ∙ ap Err p.2) (inl (c.taking.invariant.fails c.in_err-entry.field-0.0 c.in_err-entry.ensures.may_fail))
+
+pub returns-in_err-push_row-clause-fault : goal.returns-in_err-push_row-clause-fault
+returns-in_err-push_row-clause-fault g c =
+    let p = err_from_is_err_and c.from_residual-in_err-push_row.result c.from_residual-in_err-push_row.ensures.1 in
+    err_is {T = Vec Row Global} (λ (fault : ReadFault). g.C.Cursor.may_fail c.args.entries.now fault
+    ⊎ IsLogFault c.args.logs.now fault) c.in_err-push_row.field-0.0
+    c.from_residual-in_err-push_row.result (p.1 ∙ ap Err p.2) (inr c.in_err-push_row.ensures.fault)

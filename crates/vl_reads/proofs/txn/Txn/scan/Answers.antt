@@ -1,10 +1,13 @@
 use Rattle.std.proofs.Common.{refl, Global, Vec}
-use Rattle.vl_reads.proofs.Seeing.{fault_near, fault_sound, kept_beside, on_error, sees_scan, sees_still}
+use Rattle.vl_reads.proofs.Seeing.{fails_so, fault_near, fault_sound, kept_beside, on_error, sees_scan, sees_still}
 use Rattle.vl_reads.specs.laws.ReadLaws.{contents_stand, none_astray}
 use Rattle.vl_model.specs.Keys.{Row}
 use Rattle.vl_version.specs.Scans.{AreScanned, SomeAstray}
 use Rattle.vl_version.specs.declared.wanted.Wanted.{Wanted}
 use Rattle.vl_model.specs.History.{contents_at}
+use Rattle.vl_version.specs.Gathered.{span_of}
+use Rattle.vl_version.specs.Naming.{IsScanFault}
+use Rattle.vl_version.specs.Sources.{tables_in}
 use Rattle.vl_reads.proofs.txn.Txn.scan.Goals as goal
 
 pub returns-clause-rows : goal.returns-clause-rows
@@ -48,3 +51,9 @@ returns-in_err-note_scan-clause-still g c h reads sees =
     on_error _ _ _ c.from_residual-in_err-note_scan.result
     (sees_still g.H.HeldFile.bytes c.args.self.now _ h reads sees refl refl refl
     (kept_beside sees.files c.args.self.now.reader _ c.in_ok-rows.ensures.kept sees.reader.kept) c.in_err-note_scan.ensures.err)
+
+pub returns-in_err-rows-clause-fault : goal.returns-in_err-rows-clause-fault
+returns-in_err-rows-clause-fault g c =
+    let version = c.args.self.now.version in
+    fails_so (IsScanFault g.H.HeldFile.bytes (span_of c.args.low.now c.args.high.now) (tables_in version) version.behind.logs.items)
+    c.in_err-rows.field-0.0 c.in_err-rows.ensures.fault c.from_residual-in_err-rows.result c.from_residual-in_err-rows.ensures.1

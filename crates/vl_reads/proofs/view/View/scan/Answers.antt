@@ -1,11 +1,14 @@
 use Rattle.std.proofs.Common.{ap, ◌∙◌, refl, Global, Vec}
 use Rattle.vl_reads.specs.Reading.{rows_under}
-use Rattle.vl_reads.proofs.Seeing.{fault_near, fault_sound, kept_beside, sees_alone_still}
+use Rattle.vl_reads.proofs.Seeing.{fails_so, fault_near, fault_sound, kept_beside, sees_alone_still}
 use Rattle.vl_reads.specs.laws.ReadLaws.{contents_stand, none_astray}
 use Rattle.vl_version.specs.Scans.{AreScanned, SomeAstray}
 use Rattle.vl_version.specs.declared.wanted.Wanted.{Wanted}
 use Rattle.vl_model.specs.History.{contents_at}
 use Rattle.vl_model.specs.Keys.{Row, Writes}
+use Rattle.vl_version.specs.Gathered.{span_of}
+use Rattle.vl_version.specs.Naming.{IsScanFault}
+use Rattle.vl_version.specs.Sources.{tables_in}
 use Rattle.vl_reads.proofs.view.View.scan.Goals as goal
 
 pub returns-clause-rows : goal.returns-clause-rows
@@ -41,3 +44,9 @@ pub returns-in_err-rows-clause-still : goal.returns-in_err-rows-clause-still
 returns-in_err-rows-clause-still g c h sees =
     sees_alone_still g.H.HeldFile.bytes c.args.self.now _ h sees refl refl refl
     (kept_beside sees.files c.args.self.now.reader _ c.in_err-rows.ensures.kept sees.reader.kept)
+
+pub returns-in_err-rows-clause-fault : goal.returns-in_err-rows-clause-fault
+returns-in_err-rows-clause-fault g c =
+    let version = c.args.self.now.version in
+    fails_so (IsScanFault g.H.HeldFile.bytes (span_of c.args.low.now c.args.high.now) (tables_in version) version.behind.logs.items)
+    c.in_err-rows.field-0.0 c.in_err-rows.ensures.fault c.from_residual-in_err-rows.result c.from_residual-in_err-rows.ensures.1

@@ -5,12 +5,15 @@ use Rattle.vl_table.specs.declared.table.Table.{Table}
 use Rattle.vl_version.specs.levels.LevelTables.{AreApart, all_tables}
 use Rattle.vl_version.proofs.TableSources.{adds_next, adds_no_tables, no_level}
 use Rattle.vl_version.proofs.looking.Parts.{all_get, tables-next}
+use Rattle.vl_version.specs.Naming.{AddFaults}
+use Rattle.vl_version.proofs.NamingLaws.{adds_fault_next, adds_no_faults}
 use Rattle.vl_version.proofs.gather.tables.add_deeper.Goals as goal
 
 pub loop-level-init : goal.loop-level-init
 loop-level-init g c = record {
   adds = λ apart. adds_no_tables g.H.HeldFile.bytes c.args.span.now c.args.way c.args.sources.now.items;
   quiet = λ none. refl;
+  faults = adds_no_faults g.H.HeldFile.bytes c.args.span.now c.args.sources.now.items;
 }
 
 pub loop-level-preserved : goal.loop-level-preserved
@@ -28,6 +31,10 @@ loop-level-preserved g c =
           (subst (λ (l : List (Table g.row.H.Denot)). AreOf bytes l tabled) (tables-next ls i level c.loop-level-test.true is) are);
       quiet = λ none. c.in_ok-add_tables.ensures.quiet (no_level bytes ls i level c.loop-level-test.true is none)
           ∙ c.loop-level.invariant.quiet none;
+      faults = subst (λ (l : List (Table g.row.H.Denot)). AddFaults bytes c.args.span.now l c.args.sources.now.items
+          c.add_tables.new.sources.items) (sym (tables-next ls i level c.loop-level-test.true is))
+          (adds_fault_next bytes c.args.span.now (all_tables (take i ls)) level c.args.sources.now.items c.loop-level.sources.items
+          c.add_tables.new.sources.items c.loop-level.invariant.faults c.in_ok-add_tables.ensures.faults);
     }
 
 pub returns-clause-winners : goal.returns-clause-winners
@@ -35,3 +42,9 @@ returns-clause-winners g c tabled are apart =
     c.loop-level.invariant.adds apart tabled
     (subst (λ (l : List (List (Table g.row.H.Denot))). AreOf g.H.HeldFile.bytes (all_tables l) tabled)
     (sym (take_all c.loop-level.level-index c.args.levels.now c.loop-level-test.false)) are)
+
+pub returns-clause-faults : goal.returns-clause-faults
+returns-clause-faults g c =
+    subst (λ (l : List (List (Table g.row.H.Denot))). AddFaults g.H.HeldFile.bytes c.args.span.now (all_tables l)
+    c.args.sources.now.items c.loop-level.sources.items) (take_all c.loop-level.level-index c.args.levels.now c.loop-level-test.false)
+    c.loop-level.invariant.faults

@@ -3,6 +3,7 @@ use Rattle.vl_model.specs.Cutting.{joined}
 use Rattle.vl_model.specs.declared.entry.Entry.{Entry}
 use Rattle.vl_table.specs.OfTables.{AreOf}
 use Rattle.vl_version.specs.Gathered.{Adds}
+use Rattle.vl_version.specs.Naming.{AddFaults}
 use Rattle.vl_version.specs.levels.LevelTables.{AreAllApart, all_tables}
 use Rattle.vl_version.proofs.gather.tables.add_deeper.Given as goal
 
@@ -11,4 +12,5 @@ invariant-loop-level g l = record {
   adds : AreAllApart l.levels → (tabled : List (List Entry)) → AreOf g.H.HeldFile.bytes (all_tables (take l.level-index l.levels)) tabled
       → Adds g.H.HeldFile.bytes l.span l.way (joined tabled) l.initial.sources.items l.sources.items;
   quiet : all_tables l.levels ≡ [] → l.sources.items ≡ l.initial.sources.items;
+  faults : AddFaults g.H.HeldFile.bytes l.span (all_tables (take l.level-index l.levels)) l.initial.sources.items l.sources.items;
 }

@@ -4,6 +4,8 @@ use Rattle.vl_table.specs.OfTables.{AreOf}
 use Rattle.vl_table.specs.declared.table.Table.{Table}
 use Rattle.vl_version.specs.levels.LevelTables.{AreAllApart, all_tables}
 use Rattle.vl_version.proofs.TableSources.{adds_next, no_back, no_front}
+use Rattle.vl_version.specs.Naming.{AddFaults}
+use Rattle.vl_version.proofs.NamingLaws.{adds_fault_next}
 use Rattle.vl_version.proofs.gather.tables.add_levels.Goals as goal
 
 pub returns-clause-winners : goal.returns-clause-winners
@@ -30,3 +32,18 @@ returns-clause-quiet g c =
     quiet (ap all_tables c.deeper.ensures ∙ no_back bytes levels.newest.items (all_tables levels.deeper.items) none)
     ∙ c.in_ok-add_newest.ensures.quiet (c.newest.ensures ∙ no_front bytes levels.newest.items (all_tables levels.deeper.items) none))
     c.add_deeper.ensures.quiet
+
+pub returns-clause-faults : goal.returns-clause-faults
+returns-clause-faults g c =
+    on_ok_weaker c.add_deeper.result
+    (λ adds.
+    let bytes = g.H.HeldFile.bytes in
+    let levels = c.args.levels.now in
+    let span = c.args.span.now in
+    adds_fault_next bytes span levels.newest.items (all_tables levels.deeper.items) c.args.sources.now.items
+    c.add_newest.new.sources.items c.add_deeper.new.sources.items
+    (subst (λ (l : List (Table g.row.H.Denot)). AddFaults bytes span l c.args.sources.now.items c.add_newest.new.sources.items)
+    c.newest.ensures c.in_ok-add_newest.ensures.faults)
+    (subst (λ (l : List (List (Table g.row.H.Denot))). AddFaults bytes span (all_tables l) c.add_newest.new.sources.items
+    c.add_deeper.new.sources.items) c.deeper.ensures adds))
+    c.add_deeper.ensures.faults

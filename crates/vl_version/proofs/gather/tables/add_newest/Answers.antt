@@ -4,12 +4,15 @@ use Rattle.vl_table.specs.OfTables.{AreOf}
 use Rattle.vl_table.specs.declared.table.Table.{Table}
 use Rattle.vl_version.proofs.TableSources.{adds_next, adds_no_tables, adds_one, item_at, one_at}
 use Rattle.vl_version.proofs.looking.Parts.{take_next}
+use Rattle.vl_version.specs.Naming.{AddFaults}
+use Rattle.vl_version.proofs.NamingLaws.{adds_fault_next, adds_no_faults}
 use Rattle.vl_version.proofs.gather.tables.add_newest.Goals as goal
 
 pub loop-at-init : goal.loop-at-init
 loop-at-init g c = record {
   adds = adds_no_tables g.H.HeldFile.bytes c.args.span.now c.args.way c.args.sources.now.items;
   quiet = λ none. refl;
+  faults = adds_no_faults g.H.HeldFile.bytes c.args.span.now c.args.sources.now.items;
 }
 
 pub loop-at-preserved : goal.loop-at-preserved
@@ -27,6 +30,12 @@ loop-at-preserved g c =
           c.add_tables.new.sources.items (one_at ts i (i + 1 - i) t.0 inside t.1 (omega arith)) c.in_ok-add_tables.ensures.winners) tabled
           (subst (λ (l : List (Table g.row.H.Denot)). AreOf bytes l tabled) (take_next ts i t.0 inside t.1) are);
       quiet = λ none. absurd (omega (arith, inside, ap length none));
+      faults = subst (λ (l : List (Table g.row.H.Denot)). AddFaults bytes c.args.span.now l c.args.sources.now.items
+          c.add_tables.new.sources.items) (sym (take_next ts i t.0 inside t.1))
+          (adds_fault_next bytes c.args.span.now (take i ts) (t.0 ∷ []) c.args.sources.now.items c.loop-at.sources.items
+          c.add_tables.new.sources.items c.loop-at.invariant.faults
+          (subst (λ (l : List (Table g.row.H.Denot)). AddFaults bytes c.args.span.now l c.loop-at.sources.items
+          c.add_tables.new.sources.items) (one_at ts i (i + 1 - i) t.0 inside t.1 (omega arith)) c.in_ok-add_tables.ensures.faults));
     }
 
 pub returns-clause-winners : goal.returns-clause-winners
@@ -34,3 +43,8 @@ returns-clause-winners g c tabled are =
     c.loop-at.invariant.adds tabled
     (subst (λ (l : List (Table g.row.H.Denot)). AreOf g.H.HeldFile.bytes l tabled)
     (sym (take_all c.loop-at.at c.args.tables.now c.loop-at-test.false)) are)
+
+pub returns-clause-faults : goal.returns-clause-faults
+returns-clause-faults g c =
+    subst (λ (l : List (Table g.row.H.Denot)). AddFaults g.H.HeldFile.bytes c.args.span.now l c.args.sources.now.items
+    c.loop-at.sources.items) (take_all c.loop-at.at c.args.tables.now c.loop-at-test.false) c.loop-at.invariant.faults

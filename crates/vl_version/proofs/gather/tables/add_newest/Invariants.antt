@@ -3,6 +3,7 @@ use Rattle.vl_model.specs.Cutting.{joined}
 use Rattle.vl_model.specs.declared.entry.Entry.{Entry}
 use Rattle.vl_table.specs.OfTables.{AreOf}
 use Rattle.vl_version.specs.Gathered.{Adds}
+use Rattle.vl_version.specs.Naming.{AddFaults}
 use Rattle.vl_version.proofs.gather.tables.add_newest.Given as goal
 
 abbrev pub invariant-loop-at : goal.invariant-loop-at
@@ -10,4 +11,5 @@ invariant-loop-at g l = record {
   adds : (tabled : List (List Entry)) → AreOf g.H.HeldFile.bytes (take l.at l.tables) tabled
       → Adds g.H.HeldFile.bytes l.span l.way (joined tabled) l.initial.sources.items l.sources.items;
   quiet : l.tables ≡ [] → l.sources.items ≡ l.initial.sources.items;
+  faults : AddFaults g.H.HeldFile.bytes l.span (take l.at l.tables) l.initial.sources.items l.sources.items;
 }

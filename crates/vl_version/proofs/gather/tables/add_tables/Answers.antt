@@ -3,6 +3,7 @@ use Rattle.vl_model.specs.Cutting.{joined}
 use Rattle.vl_model.specs.declared.span.Span.{Span}
 use Rattle.vl_model.specs.EntryOrder.{along, within}
 use Rattle.vl_version.proofs.TableSources.{adds_cursor, adds_without, no_items, some_items}
+use Rattle.vl_version.proofs.NamingLaws.{adds_cursor_faults, adds_unread}
 use Rattle.vl_version.proofs.gather.tables.add_tables.Goals as goal
 
 pub returns-then-is_empty-clause-winners : goal.returns-then-is_empty-clause-winners
@@ -22,3 +23,12 @@ returns-clause-winners g c tabled are apart =
 pub returns-clause-quiet : goal.returns-clause-quiet
 returns-clause-quiet g c none =
     absurd (some_items c.in_ok-met.met (sym c.is_empty.ensures ∙ c.if-is_empty.false) (c.in_ok-met.ensures.none none))
+
+pub returns-then-is_empty-clause-faults : goal.returns-then-is_empty-clause-faults
+returns-then-is_empty-clause-faults g c =
+    adds_unread g.H.HeldFile.bytes c.args.span.now c.args.tables.now c.args.sources.now.items
+
+pub returns-clause-faults : goal.returns-clause-faults
+returns-clause-faults g c =
+    adds_cursor_faults g.H.HeldFile.bytes c.args.span.now c.args.tables.now c.in_ok-met.met.items c.in_ok-cursor.cursor
+    c.args.sources.now.items c.push.new.self.items c.in_ok-met.ensures.faults c.in_ok-cursor.ensures.may_fail c.in_ok-push.ensures.items

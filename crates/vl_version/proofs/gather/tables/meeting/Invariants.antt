@@ -1,4 +1,5 @@
-use Rattle.std.proofs.Common.{◌≡◌, []}
+use Rattle.std.proofs.Common.{◌≡◌, [], take}
+use Rattle.vl_version.specs.Naming.{MeetFaults}
 use Rattle.vl_version.proofs.TableSources.{HaveFirst}
 use Rattle.vl_version.proofs.gather.tables.meeting.Given as goal
 
@@ -6,4 +7,5 @@ abbrev pub invariant-loop-table : goal.invariant-loop-table
 invariant-loop-table g l = record {
   have : HaveFirst g.H.HeldFile.bytes l.span l.tables l.table-index l.met.items;
   none : l.tables ≡ [] → l.met.items ≡ [];
+  faults : MeetFaults g.H.HeldFile.bytes l.span (take l.table-index l.tables) l.met.items;
 }

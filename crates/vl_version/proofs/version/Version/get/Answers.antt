@@ -21,6 +21,11 @@ use Rattle.vl_version.proofs.NearLaws.{held_counts, near_winner}
 use Rattle.vl_version.proofs.LookLaws.{fault_answers, given_of}
 use Rattle.vl_version.proofs.NewestLaws.{newest_wins}
 use Rattle.vl_version.proofs.OverLaws.{laid_behind, no_fault, on_version, over_fault, over_found, reads_behind}
+use Rattle.std.proofs.Common.{inl, inr}
+use Rattle.std.proofs.lemmas.Result.{IfErr-weaker}
+use Rattle.vl_version.specs.Naming.{IsKeyFault, IsLogFault}
+use Rattle.vl_version.specs.Sources.{tables_in}
+use Rattle.vl_version.proofs.NamingLaws.{asked_fault, err_is}
 use Rattle.vl_version.proofs.version.Version.get.Goals as goal
 
 pub returns-clause-answers : goal.returns-clause-answers
@@ -142,3 +147,29 @@ returns-in_err-found-clause-cause g c =
     let p = err_from_is_err_and c.from_residual.result c.from_residual.ensures.1 in
     handed_cause (Option Stored) (Option TableFound) _ _ c.in_err-found.field-0.0 c.from_residual.result
     (p.1 ∙ ap Err p.2) c.in_err-found.ensures.cause
+
+pub returns-clause-fault : goal.returns-clause-fault
+returns-clause-fault g c files reads =
+    let bytes = g.H.HeldFile.bytes in
+    let self = c.args.self.now in
+    let key = c.args.key.now in
+    let held = c.deref.ensures.value ∙ ap (λ (d : Behind g.row.H.Denot). d.logs.items) c.as_ref-behind.ensures in
+    IfErr-weaker c.resolve_newest.result _ (IsKeyFault bytes (tables_in self) self.behind.logs.items key)
+    (λ e log. inr (subst (λ (l : List (SealedLog g.row.H.Denot)). IsLogFault l e) held log))
+    c.resolve_newest.ensures.fault
+
+pub returns-in_err-found-clause-fault : goal.returns-in_err-found-clause-fault
+returns-in_err-found-clause-fault g c files reads =
+    let bytes = g.H.HeldFile.bytes in
+    let self = c.args.self.now in
+    let key = c.args.key.now in
+    let number = c.args.number in
+    let b = c.as_ref-behind.result.now in
+    let behind = c.as_ref-behind.ensures in
+    let stands = c.stand_in.ensures ∙ ap stand_in c.find_held-held.ensures in
+    let p = err_from_is_err_and c.from_residual.result c.from_residual.ensures.1 in
+    let on = on_version bytes self key number b behind c.stand_in.result stands _ _ (Err c.in_err-found.field-0.0)
+    (c.in_err-found.ensures.answers files
+    (reads_behind bytes self key number b behind c.stand_in.result stands files c.args.reader.now reads)) in
+    err_is {T = Option Stored} (IsKeyFault bytes (tables_in self) self.behind.logs.items key) c.in_err-found.field-0.0
+    c.from_residual.result (p.1 ∙ ap Err p.2) (inl (asked_fault bytes (tables_in self) key c.in_err-found.field-0.0 on.fault))

@@ -19,6 +19,10 @@ use Rattle.vl_version.specs.declared.behind.Behind.{Behind}
 use Rattle.vl_version.specs.levels.LevelsLooked.{AreInOrder, tables_of}
 use Rattle.vl_version.proofs.AnswerLaws.{all_kept, all_near, same_led, scan_answers}
 use Rattle.vl_version.proofs.NearLaws.{near_behind, none_in_order}
+use Rattle.std.proofs.lemmas.Result.{IfErr-weaker}
+use Rattle.vl_version.specs.Naming.{IsMetFault, IsScanFault}
+use Rattle.vl_version.specs.Sources.{tables_in}
+use Rattle.vl_version.proofs.NamingLaws.{scan_fault}
 use Rattle.vl_version.proofs.version.Version.rows.Goals as goal
 
 pub returns-clause-answers : goal.returns-clause-answers
@@ -85,3 +89,18 @@ returns-clause-near g c untabled near =
     (all_near held held es number c.args.own.now wanted all seen (λ key. refl) (λ key. give.winners key number) along winners all_are)
     (λ fault may. c.in_ok-sources.ensures.quiet none fault
     (c.in_ok-new.ensures.may_fail fault (c.new-visible.ensures.may_fail fault may)))
+
+pub returns-clause-fault : goal.returns-clause-fault
+returns-clause-fault g c =
+    let self = c.args.self.now in
+    let bytes = g.H.HeldFile.bytes in
+    let span = span_of c.args.wanted.low.now c.args.wanted.high.now in
+    let behind : c.as_ref-behind.result.now ≡ self.behind = c.as_ref-behind.ensures in
+    let kept : c.deref.result.now ≡ self.behind.logs.items = c.deref.ensures.value
+    ∙ ap (λ (b : Behind g.row.H.Denot). b.logs.items) behind in
+    IfErr-weaker c.take_rows.result _ (IsScanFault bytes span (tables_in self) self.behind.logs.items)
+    (λ fault may. subst (λ (l : List (SealedLog g.row.H.Denot)). IsScanFault bytes span (tables_in self) l fault) kept
+    (scan_fault bytes span (tables_in self) c.deref.result.now _ fault
+    (λ bad. subst (λ (b : Behind g.row.H.Denot). IsMetFault bytes span (tables_of b.levels) fault) behind
+    (c.in_ok-sources.ensures.faults fault (c.in_ok-new.ensures.may_fail fault (c.new-visible.ensures.may_fail fault bad)))) may))
+    c.take_rows.ensures.fault
