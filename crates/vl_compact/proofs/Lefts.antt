@@ -67,20 +67,13 @@ module _ {H : Type 0} (bytes : H → Option (List ℕ)) where
 
   -- ---- faults
 
-  only : (table t : Table H) (i : ℕ) → slice_get (table ∷ []) i ≡ Some t → Some table ≡ Some t
+  pub only : (table t : Table H) (i : ℕ) → slice_get (table ∷ []) i ≡ Some t → Some table ≡ Some t
   only table t zero is = is
   only table t (suc i) is = absurd (none i is)
     where
       none : (i : ℕ) → slice_get [] i ≡ Some t → ⊥
       none zero is = cc
       none (suc i) is = cc
-
-  -- a fault on one of some tables is one on them
-  pub fails_there : (tables : List (Table H)) (table : Table H) (i : ℕ) → slice_get tables i ≡ Some table → (fault : ReadFault)
-      → MayFailOn bytes (table ∷ []) fault → MayFailOn bytes tables fault
-  fails_there tables table i is NoMemory may = tt
-  fails_there tables table i is (Disk name) may = (i, may.1, is ∙ only table may.1 may.0 may.2, may.3)
-  fails_there tables table i is (Damaged name place) may = (i, may.1, is ∙ only table may.1 may.0 may.2, may.3, may.4)
 
   -- a table that is shared fails as it does
   pub fails_shared : (size_of : H → ℕ) (name_of : H → Name) (table copy : Table H) → AreSame bytes size_of name_of table copy

@@ -17,5 +17,6 @@ mod Passing
 mod Pieces
 mod PlaceLaws
 mod PutLaws
+mod Stopping
 mod Telling
 mod Zips

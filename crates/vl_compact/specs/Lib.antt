@@ -12,6 +12,7 @@ pub mod Ranges
 pub mod Reading
 pub mod Replacing
 pub mod Ruled
+pub mod Stops
 pub mod Walking
 -- Laws of these, which proofs of this crate and of others cite.
 pub mod laws

@@ -7,6 +7,7 @@ use crate::Inputs;
 use crate::append::append_reserved;
 use crate::files::{Lent, Synced};
 use crate::fill::{Filled, fill};
+use crate::input_cursor::InputCursor;
 use crate::job_reader::JobReader;
 use crate::keeping::Keeping;
 use crate::merge::merged;
@@ -17,7 +18,6 @@ use std::alloc::{AllocError, Global};
 use vl_disk::{HeldFile, ReadFault, Reader, Writer};
 use vl_merge::{Merge, Sources};
 use vl_model::{Cursor, Key};
-use vl_table::TableCursor;
 
 /// A merge of tables that is under way.
 #[derive(Drop)]
@@ -188,7 +188,8 @@ impl<V: Sources<Fault = ReadFault>, H: HeldFile, W: Writer> Job<V, H, W> {
     ghost use Rattle.vl_engine_model.specs.declared.table.Table as laid_table;
     ghost use Rattle.vl_model.specs.Merging.{merged};
     ghost use Rattle.vl_model.specs.declared.way.Way.TheVariants.{Up};
-    ghost use Rattle.vl_table.specs.CursorParts.{MayFailOn, is_disk_fault};
+    ghost use Rattle.vl_compact.specs.Stops.{MayStopIn};
+    ghost use Rattle.vl_table.specs.CursorParts.{is_disk_fault};
     ghost use Rattle.vl_table.specs.Tables.{number_of};
     ghost use Rattle.vl_disk.specs.declared.read_fault.ReadFault.{ReadFault};
 
@@ -209,10 +210,11 @@ impl<V: Sources<Fault = ReadFault>, H: HeldFile, W: Writer> Job<V, H, W> {
             × (self.new.ended ≡ self.old.ended)) }
         ensures fits { V.fits self.old.base reader.old.looks → V.fits self.old.base reader.new.looks }
         ensures steady { OnOk result (NoneRose (counts (λ l. V.faults l) (λ r. R.faults r) reader.old reader.new)) }
-        // Reading fails only where a count says so. Which fault of its sources it is hangs on what the reader keeps.
+        // Reading fails only where a count says so. Which fault of its sources it is hangs on what the reader keeps. An input is
+        // damaged at the first block behind the last key made that doesn't stand.
         ensures cause { IfErr result (FailsReading (λ f. V.is_read_fault f)
             (MayWhere (V.fits self.old.base reader.old.looks) (V.may_fail self.old.base)) is_disk_fault
-            (MayFailOn H.bytes self.old.inputs.tables.items)
+            (MayStopIn H.bytes self.old.after self.old.inputs.tables.items)
             (counts (λ l. V.faults l) (λ r. R.faults r) reader.old reader.new)) }
     {
         if self.ended {
@@ -249,9 +251,10 @@ impl<V: Sources<Fault = ReadFault>, H: HeldFile, W: Writer> Job<V, H, W> {
         ensures fits { V.fits self.old.base reader.old.looks → V.fits self.old.base reader.new.looks }
         ensures steady { OnOk result (NoneRose (counts (λ l. V.faults l) (λ r. R.faults r) reader.old reader.new)) }
         // Reading and writing fail only where a count says so. Which fault of its sources it is hangs on what the reader keeps.
+        // An input is damaged at the first block behind the last key made that doesn't stand.
         ensures cause { IfErr result (FailsWith W.Writer (FailsReading (λ f. V.is_read_fault f)
             (MayWhere (V.fits self.old.base reader.old.looks) (V.may_fail self.old.base)) is_disk_fault
-            (MayFailOn H.bytes self.old.inputs.tables.items))
+            (MayStopIn H.bytes self.old.after self.old.inputs.tables.items))
             (counts (λ l. V.faults l) (λ r. R.faults r) reader.old reader.new) fresh self.old self.new) }
     {
         let mut lent = fresh;
@@ -287,7 +290,7 @@ impl<V: Sources<Fault = ReadFault>, H: HeldFile, W: Writer> Job<V, H, W> {
         ensures steady { OnOk result (NoneRose (counts (λ l. V.faults l) (λ r. R.faults r) reader.old reader.new)) }
         ensures cause { IfErr result (FailsFilling W.Writer (FailsReading (λ f. V.is_read_fault f)
             (MayWhere (V.fits self.old.base reader.old.looks) (V.may_fail self.old.base)) is_disk_fault
-            (MayFailOn H.bytes self.old.inputs.tables.items))
+            (MayStopIn H.bytes self.old.after self.old.inputs.tables.items))
             (counts (λ l. V.faults l) (λ r. R.faults r) reader.old reader.new) lent.old lent.new) }
     {
         let mut keeping = self.keeping(alloc)?;
@@ -322,16 +325,16 @@ impl<V: Sources<Fault = ReadFault>, H: HeldFile, W: Writer> Job<V, H, W> {
     fn keeping<R: Reader<Held = H> + Drop>(
         &self,
         alloc: Global,
-    ) -> Result<Keeping<Merge<TableCursor<H, R>>>, AllocError>
+    ) -> Result<Keeping<Merge<InputCursor<H, R>>>, AllocError>
         ensures inputs { IfOk result (λ k. k.rules.inputs.items ≡ map number_of self.now.inputs.tables.items) }
         ensures floor { IfOk result (λ k. k.rules.floor ≡ self.now.floor) }
         ensures keep { IfOk result (λ k. k.rules.keep ≡ self.now.keep) }
         ensures first { IfOk result (λ k. k.last ≡ None) }
         ensures left { (ts : List laid_table.Table) → AreTablesOf H.bytes self.now.inputs.tables.items ts
-            → IfOk result (λ k. ⟦<Merge<TableCursor<H, R>> as Cursor>⟧.left k.cursor
+            → IfOk result (λ k. ⟦<Merge<InputCursor<H, R>> as Cursor>⟧.left k.cursor
             ≡ Some (merged Up (behind self.now.after (flat_map table_entries ts)))) }
         ensures may_fail { IfOk result (λ k. (fault : ReadFault)
-            → ⟦<Merge<TableCursor<H, R>> as Cursor>⟧.may_fail k.cursor fault → MayFailOn H.bytes self.now.inputs.tables.items fault) }
+            → ⟦<Merge<InputCursor<H, R>> as Cursor>⟧.may_fail k.cursor fault → MayStopIn H.bytes self.now.after self.now.inputs.tables.items fault) }
     {
         let rules = Rules {
             inputs: numbers_of(alloc, &self.inputs.tables)?,

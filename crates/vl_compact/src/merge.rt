@@ -5,6 +5,7 @@ ghost use Rattle.std.specs.List.{AllZip, flat_map};
 ghost use Rattle.vl_compact.specs.Keys.{behind};
 ghost use Rattle.vl_compact.specs.Laid.{AreTablesOf, IsTableOf};
 ghost use Rattle.vl_compact.specs.Lefts.{HasBehind};
+ghost use Rattle.vl_compact.specs.Stops.{MayStopIn};
 ghost use Rattle.vl_compact.specs.laws.BehindLaws.{span_behind};
 ghost use Rattle.vl_engine_model.specs.Sources.{table_entries};
 ghost use Rattle.vl_engine_model.specs.declared.table.Table as laid;
@@ -12,10 +13,10 @@ ghost use Rattle.vl_merge.specs.MergeOf.{OneMayFail};
 ghost use Rattle.vl_model.specs.Merging.{merged};
 ghost use Rattle.vl_model.specs.declared.entry.Entry.{Entry};
 ghost use Rattle.vl_model.specs.declared.way.Way.TheVariants.{Up};
-ghost use Rattle.vl_table.specs.CursorParts.{MayFailOn};
 ghost use Rattle.vl_table.specs.Tables.{IsOf};
 ghost use Rattle.vl_disk.specs.declared.read_fault.ReadFault.{ReadFault};
 
+use crate::input_cursor::InputCursor;
 use std::alloc::{AllocError, Global};
 use vl_disk::{HeldFile, ReadFault, Reader};
 use vl_merge::{Merge, merge_of_told_sources};
@@ -27,12 +28,12 @@ pub fn merged<H: HeldFile, R: Reader<Held = H> + Drop>(
     alloc: Global,
     tables: &[Table<H>],
     after: &Option<Key>,
-) -> Result<Merge<TableCursor<H, R>>, AllocError>
+) -> Result<Merge<InputCursor<H, R>>, AllocError>
     ensures left { (ts : List laid.Table) → AreTablesOf H.bytes tables.now ts
-        → IfOk result (λ m. ⟦<Merge<TableCursor<H, R>> as Cursor>⟧.left m
+        → IfOk result (λ m. ⟦<Merge<InputCursor<H, R>> as Cursor>⟧.left m
         ≡ Some (merged Up (behind after.now (flat_map table_entries ts)))) }
     ensures may_fail { IfOk result (λ m. (fault : ReadFault)
-        → ⟦<Merge<TableCursor<H, R>> as Cursor>⟧.may_fail m fault → MayFailOn H.bytes tables.now fault) }
+        → ⟦<Merge<InputCursor<H, R>> as Cursor>⟧.may_fail m fault → MayStopIn H.bytes after.now tables.now fault) }
 {
     merge_of_told_sources();
     Merge::new(cursors(alloc, tables, after)?, Way::Up)
@@ -43,11 +44,11 @@ fn cursors<H: HeldFile, R: Reader<Held = H> + Drop>(
     alloc: Global,
     tables: &[Table<H>],
     after: &Option<Key>,
-) -> Result<Vec<TableCursor<H, R>>, AllocError>
+) -> Result<Vec<InputCursor<H, R>>, AllocError>
     ensures left { (ts : List laid.Table) → AreTablesOf H.bytes tables.now ts → IfOk result (λ cs.
-        AllZip (HasBehind (λ c. ⟦<TableCursor<H, R> as Cursor>⟧.left c) after.now) cs.items ts) }
+        AllZip (HasBehind (λ c. ⟦<InputCursor<H, R> as Cursor>⟧.left c) after.now) cs.items ts) }
     ensures may_fail { IfOk result (λ cs. (fault : ReadFault)
-        → OneMayFail (λ c f. ⟦<TableCursor<H, R> as Cursor>⟧.may_fail c f) cs.items fault → MayFailOn H.bytes tables.now fault) }
+        → OneMayFail (λ c f. ⟦<InputCursor<H, R> as Cursor>⟧.may_fail c f) cs.items fault → MayStopIn H.bytes after.now tables.now fault) }
 {
     let mut cursors = Vec::new(alloc);
     for table in tables {
@@ -61,15 +62,16 @@ fn cursor<H: HeldFile, R: Reader<Held = H> + Drop>(
     alloc: Global,
     table: &Table<H>,
     after: &Option<Key>,
-) -> Result<TableCursor<H, R>, AllocError>
+) -> Result<InputCursor<H, R>, AllocError>
     ensures left { (t : laid.Table) → IsTableOf H.bytes table.now t
-        → IfOk result (λ c. HasBehind (λ c. ⟦<TableCursor<H, R> as Cursor>⟧.left c) after.now c t) }
+        → IfOk result (λ c. HasBehind (λ c. ⟦<InputCursor<H, R> as Cursor>⟧.left c) after.now c t) }
     ensures may_fail { IfOk result (λ c. (fault : ReadFault)
-        → ⟦<TableCursor<H, R> as Cursor>⟧.may_fail c fault → MayFailOn H.bytes (table.now ∷ []) fault) }
+        → ⟦<InputCursor<H, R> as Cursor>⟧.may_fail c fault → MayStopIn H.bytes after.now (table.now ∷ []) fault) }
 {
     let mut one = Vec::new(alloc);
     one.push(table.share()?)?;
-    TableCursor::new(alloc, one, span_behind(alloc, after)?, Way::Up)
+    let cursor = TableCursor::new(alloc, one, span_behind(alloc, after)?, Way::Up)?;
+    Ok(InputCursor { cursor })
 }
 
 // The keys behind a key, or all of them.

@@ -11,6 +11,7 @@ use Rattle.vl_compact.specs.Laid.{AreTablesOf}
 use Rattle.vl_compact.specs.Lending.{FailsWriting, HasFailed, IsSteady, Wanted}
 use Rattle.vl_compact.specs.Progress.{FailsWith, IsNew, IsTableFile, KeepsAll, Leaves, Takes}
 use Rattle.vl_compact.specs.Reading.{Counts, FailsReading, IsMemory, IsOfFiles, IsOfSources, MayWhere, NoneRose, counts}
+use Rattle.vl_compact.specs.Stops.{MayStopIn}
 use Rattle.vl_compact.specs.declared.files.Lent.{Lent}
 use Rattle.vl_compact.specs.declared.files.Synced.{Synced}
 use Rattle.vl_compact.specs.declared.job.Job.{Job as TheJob}
@@ -133,21 +134,21 @@ module _ {H R W : Type 0} (writers : Writers W) (bytes : H → Option (List ℕ)
     (j : Job) (is : HasMerge writers bytes job j) (fits : Fits bytes job.base.version reader) (c : Counts) where
   no_damage : (name : Name) (place : ℕ) → FailsReading is_disk_fault
       (MayWhere (Fits bytes job.base.version reader) (MayFailOn bytes (tables_in job.base.version))) is_disk_fault
-      (MayFailOn bytes job.inputs.tables.items) c (Damaged name place) → ⊥
+      (MayStopIn bytes job.after job.inputs.tables.items) c (Damaged name place) → ⊥
   no_damage name place fails = ⊎_elim
       (λ (out : IsMemory c (Damaged name place)). let no = out.is in absurd (damaged_memory no))
       (λ (other : IsOfSources is_disk_fault (MayWhere (Fits bytes job.base.version reader)
       (MayFailOn bytes (tables_in job.base.version))) c (Damaged name place)
-      ⊎ IsOfFiles is_disk_fault (MayFailOn bytes job.inputs.tables.items) c (Damaged name place)). ⊎_elim
+      ⊎ IsOfFiles is_disk_fault (MayStopIn bytes job.after job.inputs.tables.items) c (Damaged name place)). ⊎_elim
       (λ (of : IsOfSources is_disk_fault (MayWhere (Fits bytes job.base.version reader)
       (MayFailOn bytes (tables_in job.base.version))) c (Damaged name place)).
       let (i, t, found, named, bad) = of.had fits in
       let (es, its) = is_at bytes (tables_in job.base.version) is.is.base.tabled i t is.is.base.tables found in
       undamaged bytes t es place its bad)
-      (λ (of : IsOfFiles is_disk_fault (MayFailOn bytes job.inputs.tables.items) c (Damaged name place)).
+      (λ (of : IsOfFiles is_disk_fault (MayStopIn bytes job.after job.inputs.tables.items) c (Damaged name place)).
       let (i, t, found, named, bad) = of.had in
       let (es, its) = is_among bytes job.inputs.tables.items is.is.tables i t is.is.inputs found in
-      undamaged bytes t es place its bad)
+      undamaged bytes t es place its bad.bad)
       other)
       fails
     where
@@ -157,19 +158,19 @@ module _ {H R W : Type 0} (writers : Writers W) (bytes : H → Option (List ℕ)
   -- nothing that the merge reads is damaged
   pub sound_reading : (fault : ReadFault) → FailsReading is_disk_fault
       (MayWhere (Fits bytes job.base.version reader) (MayFailOn bytes (tables_in job.base.version))) is_disk_fault
-      (MayFailOn bytes job.inputs.tables.items) c fault → (name : Name) (place : ℕ) → fault ≡ Damaged name place → ⊥
+      (MayStopIn bytes job.after job.inputs.tables.items) c fault → (name : Name) (place : ℕ) → fault ≡ Damaged name place → ⊥
   sound_reading fault fails name place is_damage = no_damage name place (subst (FailsReading is_disk_fault
       (MayWhere (Fits bytes job.base.version reader) (MayFailOn bytes (tables_in job.base.version))) is_disk_fault
-      (MayFailOn bytes job.inputs.tables.items) c) is_damage fails)
+      (MayStopIn bytes job.after job.inputs.tables.items) c) is_damage fails)
 
   pub sound_filling : {g : _} (file : Lent W g) (old new : TheJob (Base H R) H W g) (fault : ReadFault) → FailsWith writers
       (FailsReading is_disk_fault
       (MayWhere (Fits bytes job.base.version reader) (MayFailOn bytes (tables_in job.base.version))) is_disk_fault
-      (MayFailOn bytes job.inputs.tables.items)) c file old new fault → (name : Name) (place : ℕ) → fault ≡ Damaged name place → ⊥
+      (MayStopIn bytes job.after job.inputs.tables.items)) c file old new fault → (name : Name) (place : ℕ) → fault ≡ Damaged name place → ⊥
   sound_filling file old new fault (leaving, left, fails) name place is_damage = ⊎_elim
       (λ (read : FailsReading is_disk_fault
       (MayWhere (Fits bytes job.base.version reader) (MayFailOn bytes (tables_in job.base.version))) is_disk_fault
-      (MayFailOn bytes job.inputs.tables.items) c fault × IsSteady writers file leaving). sound_reading fault read.0 name place is_damage)
+      (MayStopIn bytes job.after job.inputs.tables.items) c fault × IsSteady writers file leaving). sound_reading fault read.0 name place is_damage)
       (λ (wrote : FailsWriting writers file leaving fault × NoneRose c). ⊎_elim
       (λ (out : Wanted writers file leaving fault). damaged_memory (sym is_damage ∙ out.is))
       (λ (failed : HasFailed writers file leaving fault). damaged_disk (sym is_damage ∙ failed.named))

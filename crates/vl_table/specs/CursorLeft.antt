@@ -6,6 +6,8 @@ use Rattle.std.specs.List.{slice_get}
 use Rattle.std.specs.Option.{option_map}
 use Rattle.vl_model.specs.declared.entry.Entry.{Entry}
 use Rattle.vl_model.specs.EntryOrder.{within}
+use Rattle.vl_model.specs.declared.span.Span.{Span}
+use Rattle.vl_model.specs.declared.way.Way.{Way}
 use Rattle.vl_table.specs.CursorParts.{AllStand, Block, StandsWith, block_count, blocks_at, blocks_over, entries_told, rise_over}
 use Rattle.vl_table.specs.Stretches.{on_way, stretch_of}
 use Rattle.vl_table.specs.declared.cursor.TableCursor.{TableCursor}
@@ -52,6 +54,14 @@ module _ {H R : Type 0} {g : HeldFile.Ghosts H} {k : Clone.Ghosts H} where
     pub later : d.later ≡ c.later
     pub table : d.table ≡ c.table
     pub blocks : d.blocks ≡ c.blocks
+
+  -- It is to go over these tables, and has read none of their blocks.
+  pub record Begins (ts : List (Table H)) (s : Span) (w : Way) (c : TableCursor H R g k) : Type 0 where
+    pub tables : c.tables.items ≡ ts
+    pub span : c.span ≡ s
+    pub way : c.way ≡ w
+    pub unread : unread c ≡ blocks_over s w (on_way w ts)
+    pub none : in_block c ≡ []
 
   -- It read the next block, which stood, and is to look at its entries.
   pub record ReadsNext (bytes_of : H → Option (List ℕ)) (c d : TableCursor H R g k) : Type 0 where

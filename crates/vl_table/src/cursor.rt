@@ -38,9 +38,9 @@ pub struct TableCursor<H: HeldFile, R> {
 }
 
 impl<H: HeldFile, R: Reader<Held = H> + Drop> Cursor for TableCursor<H, R> {
-    ghost use Rattle.std.specs.Prelude.{◌≡◌, ◌≤◌, IfErr, IfOk, MatchResult, OnErr, OnOk};
+    ghost use Rattle.std.specs.Prelude.{◌≡◌, ◌≤◌, IfErr, IfNone, IfOk, MatchResult, OnErr, OnOk};
     ghost use Rattle.vl_model.specs.Cursors.{Gives, IsCounted, Keeps, Spends};
-    ghost use Rattle.vl_table.specs.CursorLeft.{GoesOn, HasRead, cursor_budget, cursor_left, unread};
+    ghost use Rattle.vl_table.specs.CursorLeft.{EndsAt, GoesOn, HasRead, cursor_budget, cursor_left, unread};
     ghost use Rattle.vl_table.specs.CursorParts.{MayFailOn, StopsBefore, is_disk_fault};
     ghost use Rattle.vl_disk.specs.declared.read_fault.ReadFault.{ReadFault};
 
@@ -70,8 +70,9 @@ impl<H: HeldFile, R: Reader<Held = H> + Drop> Cursor for TableCursor<H, R> {
         ensures keeps { (fault : ReadFault) → MayFailOn H.bytes self.new.tables.items fault
             → MayFailOn H.bytes self.old.tables.items fault }
 
-        // Each block that it read stood; where one doesn't, that is the next again.
+        // Each block that it read stood; where one doesn't, that is the next again. It ends only where all were read.
         ensures read { HasRead H.bytes self.old self.new }
+        ensures ended { IfOk result (λ next. IfNone next (EndsAt self.old self.new)) }
         ensures stopped { IfErr result (λ fault. StopsBefore H.bytes (unread self.new) fault) }
         ensures goes { GoesOn self.old self.new }
     {
@@ -93,7 +94,7 @@ impl<H: HeldFile, R: Reader<Held = H> + Drop> TableCursor<H, R> {
     ghost use Rattle.vl_model.specs.declared.entry.Entry.{Entry};
     ghost use Rattle.vl_model.specs.EntryOrder.{along, within};
     ghost use Rattle.vl_model.specs.Cutting.{joined};
-    ghost use Rattle.vl_table.specs.CursorLeft.{EndsAt, GoesOn, HasNotRead, ReadsNext, StaysIn};
+    ghost use Rattle.vl_table.specs.CursorLeft.{Begins, EndsAt, GoesOn, HasNotRead, ReadsNext, StaysIn};
     ghost use Rattle.vl_table.specs.CursorLeft.{blocks_left, cursor_budget, in_block, unread};
     ghost use Rattle.vl_table.specs.CursorParts.{MayFailOn, StopsBefore, is_disk_fault, rise_over};
     ghost use Rattle.vl_table.specs.Stretches.{IsNextOn};
@@ -112,6 +113,7 @@ impl<H: HeldFile, R: Reader<Held = H> + Drop> TableCursor<H, R> {
             → IfOk result (λ c. ⟦<TableCursor<H, R> as Cursor>⟧.left c ≡ Some (along way (within span (joined ess)))) }
         ensures may_fail { IfOk result (λ c. (fault : ReadFault)
             → ⟦<TableCursor<H, R> as Cursor>⟧.may_fail c fault → MayFailOn H.bytes tables.items fault) }
+        ensures begins { IfOk result (Begins tables.items span way) }
     {
         let none = Stretch { first: 0, end: 0 };
         let end = tables.len();

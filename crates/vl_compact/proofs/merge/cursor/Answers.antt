@@ -1,11 +1,12 @@
 use Rattle.std.proofs.Common.{List, [], ◌∷◌, ◌++◌, Some, ap, subst, sym, ◌∙◌}
-use Rattle.std.proofs.lemmas.Result.{IfOk-weaker}
-use Rattle.vl_model.specs.Cutting.{joined}
-use Rattle.vl_compact.proofs.Lefts.{fails_shared, one_left}
+use Rattle.vl_compact.proofs.Lefts.{one_left}
 use Rattle.vl_compact.proofs.Of.{shared_is}
+use Rattle.vl_compact.proofs.Stopping.{stops_shared}
 use Rattle.vl_model.specs.declared.span.Span.{Span}
+use Rattle.vl_model.specs.declared.way.Way.TheVariants.{Up}
 use Rattle.vl_model.specs.EntryOrder.{within}
-use Rattle.vl_table.specs.CursorParts.{MayFailOn}
+use Rattle.vl_model.specs.Cutting.{joined}
+use Rattle.vl_table.specs.CursorLeft.{Begins}
 use Rattle.vl_table.specs.OfTables.{AreOf}
 use Rattle.vl_table.specs.declared.table.Table.{Table}
 use Rattle.vl_compact.proofs.merge.cursor.Goals as goal
@@ -15,18 +16,17 @@ returns-clause-left g c = λ t is.
     let bytes = g.H.HeldFile.bytes in
     let copy = c.in_ok-share.field-0 in
     let items = c.in_ok-push.ensures.items ∙ ap (λ (l : List (Table g.row.H.Denot)). l ++ copy ∷ []) c.new-one.ensures.items in
-    IfOk-weaker c.new.result _ _
-    (λ it left. left ∙ ap (λ (s : Span). Some (within s (joined (t.entries ∷ [])))) c.in_ok-span_behind.ensures
-    ∙ ap (λ es. Some es) (one_left c.args.after.now t.entries))
-    (c.new.ensures.left (t.entries ∷ []) (subst (λ (l : List (Table g.row.H.Denot)). AreOf bytes l (t.entries ∷ [])) (sym items)
-    ((shared_is bytes g.H.HeldFile.size g.H.HeldFile.named c.args.table.now copy t c.in_ok-share.ensures is).of, tt)))
+    c.in_ok-cursor.ensures.left (t.entries ∷ []) (subst (λ (l : List (Table g.row.H.Denot)). AreOf bytes l (t.entries ∷ [])) (sym items)
+    ((shared_is bytes g.H.HeldFile.size g.H.HeldFile.named c.args.table.now copy t c.in_ok-share.ensures is).of, tt))
+    ∙ ap (λ (s : Span). Some (within s (joined (t.entries ∷ [])))) c.in_ok-span_behind.ensures
+    ∙ ap (λ es. Some es) (one_left c.args.after.now t.entries)
 
 pub returns-clause-may_fail : goal.returns-clause-may_fail
-returns-clause-may_fail g c =
+returns-clause-may_fail g c = λ fault fails.
     let bytes = g.H.HeldFile.bytes in
     let copy = c.in_ok-share.field-0 in
     let items = c.in_ok-push.ensures.items ∙ ap (λ (l : List (Table g.row.H.Denot)). l ++ copy ∷ []) c.new-one.ensures.items in
-    IfOk-weaker c.new.result _ _
-    (λ it may fault fails. fails_shared bytes g.H.HeldFile.size g.H.HeldFile.named c.args.table.now copy c.in_ok-share.ensures fault
-    (subst (λ (l : List (Table g.row.H.Denot)). MayFailOn bytes l fault) items (may fault fails)))
-    c.new.ensures.may_fail
+    stops_shared bytes g.H.HeldFile.size g.H.HeldFile.named c.args.after.now c.args.table.now copy c.in_ok-share.ensures c.in_ok-cursor.cursor
+    (subst (λ (s : Span). Begins (copy ∷ []) s Up c.in_ok-cursor.cursor) c.in_ok-span_behind.ensures
+    (subst (λ (l : List (Table g.row.H.Denot)). Begins l c.in_ok-span_behind.field-0 Up c.in_ok-cursor.cursor) items
+    c.in_ok-cursor.ensures.begins)) fault fails

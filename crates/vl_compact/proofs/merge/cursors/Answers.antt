@@ -1,14 +1,15 @@
 use Rattle.std.proofs.Common.{List, [], ◌∷◌, ◌++◌, subst, sym, take}
 use Rattle.std.specs.List.{AllZip}
-use Rattle.vl_compact.proofs.Lefts.{fails_there, item_there, more_fails}
+use Rattle.vl_compact.proofs.Lefts.{item_there, more_fails}
+use Rattle.vl_compact.proofs.Stopping.{stops_there}
 use Rattle.vl_compact.proofs.Zips.{zip_all, zip_at, zip_push}
 use Rattle.vl_compact.specs.Laid.{IsTableOf}
 use Rattle.vl_compact.specs.Lefts.{HasBehind}
+use Rattle.vl_compact.specs.Stops.{MayStop, MayStopIn}
 use Rattle.vl_engine_model.specs.declared.table.Table as laid
 use Rattle.vl_merge.specs.MergeOf.{OneMayFail}
 use Rattle.vl_table.specs.CursorLeft.{cursor_left}
-use Rattle.vl_table.specs.CursorParts.{MayFailOn}
-use Rattle.vl_table.specs.declared.cursor.TableCursor.{TableCursor}
+use Rattle.vl_compact.specs.declared.input_cursor.InputCursor.{InputCursor}
 use Rattle.vl_disk.specs.declared.read_fault.ReadFault.{ReadFault}
 use Rattle.vl_compact.proofs.merge.cursors.Goals as goal
 
@@ -16,28 +17,28 @@ pub loop-table-preserved : goal.loop-table-preserved
 loop-table-preserved g c = record {
   left = λ ts are.
       let i = c.loop-table.table-index in
-      let R = HasBehind (λ (x : TableCursor g.row.H.Denot g.row.R.Denot g.H.HeldFile g.H.Clone). cursor_left g.H.HeldFile.bytes x) c.args.after.now in
+      let R = HasBehind (λ (x : InputCursor g.row.H.Denot g.row.R.Denot g.H.HeldFile g.H.Clone). cursor_left g.H.HeldFile.bytes x.cursor) c.args.after.now in
       let at = zip_at (IsTableOf g.H.HeldFile.bytes) c.args.tables.now ts i c.table-item.result are
       c.loop-table-test.true c.table-item.is in
       subst (λ (l : List laid.Table). AllZip R c.push.new.self.items l) (sym at.taken)
-      (subst (λ (l : List (TableCursor g.row.H.Denot g.row.R.Denot g.H.HeldFile g.H.Clone)). AllZip R l (take i ts ++ at.item ∷ []))
+      (subst (λ (l : List (InputCursor g.row.H.Denot g.row.R.Denot g.H.HeldFile g.H.Clone)). AllZip R l (take i ts ++ at.item ∷ []))
       (sym c.in_ok-push.ensures.items)
       (zip_push R c.loop-table.cursors.items (take i ts) c.in_ok-cursor.field-0 at.item (c.loop-table.invariant.left ts are)
       (c.in_ok-cursor.ensures.left at.item at.is)));
   fails = λ fault may.
-      let May = λ (x : TableCursor g.row.H.Denot g.row.R.Denot g.H.HeldFile g.H.Clone) (f : ReadFault). MayFailOn g.H.HeldFile.bytes x.tables.items f in
-      more_fails May (MayFailOn g.H.HeldFile.bytes c.args.tables.now) c.loop-table.cursors.items c.in_ok-cursor.field-0 fault
+      let May = λ (x : InputCursor g.row.H.Denot g.row.R.Denot g.H.HeldFile g.H.Clone) (f : ReadFault). MayStop g.H.HeldFile.bytes x.cursor f in
+      more_fails May (MayStopIn g.H.HeldFile.bytes c.args.after.now c.args.tables.now) c.loop-table.cursors.items c.in_ok-cursor.field-0 fault
       (c.loop-table.invariant.fails fault)
-      (λ here. fails_there g.H.HeldFile.bytes c.args.tables.now c.table-item.result c.loop-table.table-index
+      (λ here. stops_there g.H.HeldFile.bytes c.args.after.now c.args.tables.now c.table-item.result c.loop-table.table-index
       (item_there c.args.tables.now c.loop-table.table-index c.table-item.result c.loop-table-test.true c.table-item.is) fault
       (c.in_ok-cursor.ensures.may_fail fault here))
-      (subst (λ (l : List (TableCursor g.row.H.Denot g.row.R.Denot g.H.HeldFile g.H.Clone)). OneMayFail May l fault) c.in_ok-push.ensures.items may);
+      (subst (λ (l : List (InputCursor g.row.H.Denot g.row.R.Denot g.H.HeldFile g.H.Clone)). OneMayFail May l fault) c.in_ok-push.ensures.items may);
 }
 
 pub returns-clause-left : goal.returns-clause-left
 returns-clause-left g c = λ ts are.
     subst (λ (l : List laid.Table). AllZip
-    (HasBehind (λ (x : TableCursor g.row.H.Denot g.row.R.Denot g.H.HeldFile g.H.Clone). cursor_left g.H.HeldFile.bytes x) c.args.after.now)
+    (HasBehind (λ (x : InputCursor g.row.H.Denot g.row.R.Denot g.H.HeldFile g.H.Clone). cursor_left g.H.HeldFile.bytes x.cursor) c.args.after.now)
     c.loop-table.cursors.items l)
     (zip_all (IsTableOf g.H.HeldFile.bytes) c.args.tables.now ts c.loop-table.table-index are c.loop-table-test.false)
     (c.loop-table.invariant.left ts are)

@@ -1,4 +1,5 @@
-use Rattle.std.proofs.Common.{◌≤◌, ◌∙◌, ◌++◌, List, ap, arith}
+use Rattle.std.proofs.Common.{◌≡◌, ◌≤◌, ◌-◌, ◌∙◌, ◌++◌, List, ap, arith, refl}
+use Rattle.std.proofs.lemmas.List.{take_all}
 use Rattle.std.specs.List.{slice_get}
 use Rattle.std.specs.Option.{option_map}
 use Rattle.vl_model.specs.declared.entry.Entry.{Entry}
@@ -6,6 +7,7 @@ use Rattle.vl_model.specs.EntryOrder.{within}
 use Rattle.vl_table.specs.CursorParts.{blocks_over, entries_told}
 use Rattle.vl_table.specs.Stretches.{on_way, stretch_of}
 use Rattle.vl_table.specs.declared.stretch.Stretch.{Stretch}
+use Rattle.vl_table.specs.declared.table.Table.{Table}
 use Rattle.vl_table.proofs.CursorSteps.{left_of, none_at}
 use Rattle.vl_table.proofs.StretchSteps.{end_on}
 use Rattle.vl_table.proofs.WholeTables.{told_whole}
@@ -24,3 +26,20 @@ returns-clause-left g c = λ ess are.
     (λ i. left_of (w.0 i) (ap (within span) (end_on way nothing c.in_ok-new.field-0 past) i)
     (entries_told bytes span way (none_at way (slice_get ts 0) nothing past i ++ blocks_over span way (on_way way (stretch_of all ts)))))
     ∙ ap (option_map (λ (l : List Entry). l)) w.1
+
+pub returns-clause-begins : goal.returns-clause-begins
+returns-clause-begins g c =
+    let span = c.args.span in
+    let way = c.args.way in
+    let ts = c.args.tables.items in
+    let nothing : Stretch = record { first = 0; end = 0 } in
+    let all : Stretch = record { first = 0; end = c.len-end.result } in
+    let past : 0 ≤ 0 = omega arith in
+    let whole : stretch_of all ts ≡ ts = take_all (c.len-end.result - 0) ts (omega (arith, c.len-end.ensures, c.args.tables.ok.0)) in
+    record {
+      tables = refl;
+      span = refl;
+      way = refl;
+      unread = λ i. none_at way (slice_get ts 0) nothing past i ++ blocks_over span way (on_way way (whole i));
+      none = ap (within span) (end_on way nothing c.in_ok-new.field-0 past);
+    }
