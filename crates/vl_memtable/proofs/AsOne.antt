@@ -1,11 +1,13 @@
 -- A run over others, one behind the other.
-use Rattle.std.proofs.Common.{◌≡◌, ℕ, ◌+◌, ◌<◌, ◌≤◌, List, [], ◌∷◌, ◌++◌, length, drop, get_or, sym, ap, ◌∙◌, subst, arith, append_assoc}
+use Rattle.std.proofs.Common.{◌≡◌, ℕ, ◌+◌, ◌<◌, ◌≤◌, List, [], ◌∷◌, ◌++◌, length, drop, get_or, sym, ap, ◌∙◌, map, subst, arith, append-nil, append_assoc}
 use Rattle.std.proofs.lemmas.List.{drop_all}
 use Rattle.std.specs.declared.cmp.Ordering.TheVariants.{Less, Equal, Greater}
 use Rattle.vl_model.specs.Entries.{by_order, entry_cmp, in_order, put}
 use Rattle.vl_model.specs.declared.entry.Entry.{Entry}
 use Rattle.vl_model.specs.laws.OrderLaws.{in_order-back, in_order-front}
+use Rattle.vl_model.specs.EntryOrder.{IsInOrder}
 use Rattle.vl_memtable.specs.Contents.{all_of}
+use Rattle.vl_memtable.specs.Lengths.{one_run}
 use Rattle.vl_memtable.proofs.RunLists.{drop_next}
 
 some-put : (e : Entry) (es : List Entry) → 0 < length (put e es)
@@ -39,3 +41,10 @@ pub over_all : (run front : List Entry) (runs : List (List Entry)) (i : ℕ) →
     → in_order (all_of (front ∷ [])) ≡ in_order (run ++ in_order (all_of runs))
 over_all run front runs i past so =
     ap (λ l. in_order (front ++ all_of l)) (sym (drop_all i runs past)) ∙ so.entries ∙ sym (in_order-back run (all_of runs))
+
+-- a list of one run has this length alone
+pub as_one : (front : List Entry) (runs : List (List Entry)) → 0 < length front → IsInOrder front → runs ≡ front ∷ []
+    → map length runs ≡ one_run (in_order (all_of runs))
+as_one [] runs some rising are = absurd (omega (arith, some))
+as_one (e ∷ es) runs some rising are = subst (λ (rs : List (List Entry)). map length rs ≡ one_run (in_order (all_of rs))) (sym are)
+    (sym (ap (λ (l : List Entry). one_run l) (ap in_order (append-nil (e ∷ es)) ∙ rising)))

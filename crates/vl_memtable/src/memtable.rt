@@ -4,7 +4,7 @@ ghost use Rattle.vl_model.specs.Entries.{in_order};
 ghost use Rattle.vl_model.specs.Winners.{winner, exact};
 ghost use Rattle.vl_memtable.specs.Contents.{IsNewTo, GiveAll, GiveWithin};
 ghost use Rattle.vl_memtable.specs.Facts.{HasFewRuns};
-ghost use Rattle.vl_memtable.specs.Lengths.{lengths_with};
+ghost use Rattle.vl_memtable.specs.Lengths.{lengths_with, one_run};
 
 use crate::over::over;
 use crate::{Run, RunCursor, runs};
@@ -57,7 +57,8 @@ impl Memtable {
     /// version the run's counts. All entries become one run. It stays as it is itself.
     pub fn over(&self, run: Run) -> Result<Memtable, AllocError>
         requires { 0 < length run }
-        ensures { IfOk result (λ over. over.entries ≡ in_order (run ++ self.now.entries)) }
+        ensures entries { IfOk result (λ over. over.entries ≡ in_order (run ++ self.now.entries)) }
+        ensures lengths { IfOk result (λ over. over.lengths ≡ one_run over.entries) }
     {
         let runs = over(*self.runs.allocator(), &self.runs, run)?;
         Ok(Memtable { runs })

@@ -1,7 +1,8 @@
 // All runs as one, where a key and version may stand in more than one of them.
-ghost use Rattle.std.specs.Prelude.{◌≡◌, ◌++◌, ◌<◌, length, IfOk};
+ghost use Rattle.std.specs.Prelude.{◌≡◌, ◌++◌, ◌<◌, length, map, IfOk};
 ghost use Rattle.vl_model.specs.Entries.{in_order};
 ghost use Rattle.vl_memtable.specs.Contents.{all_of, AreRuns};
+ghost use Rattle.vl_memtable.specs.Lengths.{one_run};
 
 use crate::Run;
 use std::alloc::{AllocError, Global};
@@ -11,6 +12,7 @@ pub fn over(alloc: Global, runs: &[Run], run: Run) -> Result<Vec<Run>, AllocErro
     requires { 0 < length run }
     ensures entries { IfOk result
         (λ over. in_order (all_of over.items) ≡ in_order (run ++ in_order (all_of runs.now))) }
+    ensures lengths { IfOk result (λ over. map length over.items ≡ one_run (in_order (all_of over.items))) }
     ensures are { IfOk result (λ over. AreRuns over.items) }
 {
     // What is read tells the proof that a run is in order.

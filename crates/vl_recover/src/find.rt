@@ -13,6 +13,7 @@ ghost use Rattle.vl_recover.specs.opening.HeldFiles.{AreHeldFound, AreReadTables
 ghost use Rattle.vl_recover.specs.opening.LogsSoFar.{AreLogsFound};
 ghost use Rattle.vl_recover.specs.opening.Named.{AreGreatestIn};
 ghost use Rattle.vl_recover.specs.opening.Opening.{FoundTable, NamesNoTable};
+ghost use Rattle.vl_recover.specs.opening.Results.{IsOneRun};
 
 use crate::OpenError;
 use crate::current::current_state;
@@ -45,10 +46,13 @@ pub(crate) fn find<D: Disk>(
     ensures place { IfOk result (λ found. vec_len found.1.sealed + 1 ≤ vec_capacity found.1.sealed) }
     ensures waiting { (state : DiskState) (read : Image) (finds : Finds read) → D.told disk.old ≡ Some state → IsRead read state
         → IfOk result (λ found. AreWaiting finds.opening.state.covered found.0.waiting.items finds.opening.logs) }
+    ensures runs { IfOk result (λ found. All IsOneRun found.0.frozen.items) }
     ensures numbers { IfOk result (λ found. AreFileNumbers found.0.greatest) }
     ensures last { IfOk result (λ found. IsUpTo found.0.greatest.log found.0.last) }
     ensures at { IfErr result (IsFaultAt (D.told disk.old)) }
     ensures fresh { IfOk result (λ _. D.Reader.faults reader.new ≡ 0) }
+    // What the reader failed at is answered as a fault.
+    ensures read_fault { (D.Reader.faults reader.new ≡ 0 → ⊥) → IsFault result }
     // Where no table is named the reader isn't asked.
     ensures unread { (state : DiskState) (read : Image) → D.told disk.old ≡ Some state → IsRead read state → NamesNoTable read
         → D.Reader.faults reader.new ≡ 0 }
@@ -91,6 +95,7 @@ fn found<H: HeldFile>(
         → Lists names.items disk → Leads read state levels led.items
         → AreLogsFound read state.head state.covered logs → IsAllFound read levels result }
     ensures state { IfOk result (λ found. found.0.state ≡ state) }
+    ensures frozen { IfOk result (λ found. found.0.frozen ≡ logs.frozen) }
     ensures waiting { IfOk result (λ found. found.0.waiting ≡ logs.waiting) }
     ensures sealed { IfOk result (λ found. found.1 ≡ logs.sealed) }
     ensures numbers { IfOk result (λ found. AreFileNumbers found.0.greatest) }

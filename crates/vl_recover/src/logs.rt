@@ -17,7 +17,7 @@ ghost use Rattle.vl_recover.specs.opening.LogsSoFar.{number_before, waits_with, 
 ghost use Rattle.vl_recover.specs.opening.Named.{AreRising, IsGreatestIn};
 ghost use Rattle.vl_recover.specs.opening.Opening.{StandingLogs};
 ghost use Rattle.vl_recover.specs.opening.ReadLogs.{IsReadAs, held_content, standing_log};
-ghost use Rattle.vl_recover.specs.opening.Results.{frozen_log};
+ghost use Rattle.vl_recover.specs.opening.Results.{IsOneRun, frozen_log};
 ghost use Rattle.vl_recover.specs.opening.Walk as walk;
 ghost use Rattle.vl_recover.specs.opening.Walk.{StandingLog};
 ghost use Rattle.vl_seglog.specs.LogReading.{LogReading};
@@ -60,6 +60,7 @@ pub fn read_logs<D: Disk>(
         → IsRead read state → StandingLogs read head logs
         → IfOk result (λ found. AreHeldSoFar D.Held.bytes read lower.items false logs found.sealed.items) }
     ensures last { IfOk result (λ logs. IfSome logs.last (λ q. Contains names.now (kinds.Log q.number))) }
+    ensures runs { IfOk result (λ found. All IsOneRun found.frozen.items) }
     ensures excused { IfErr result IsExcused }
     ensures at { IfErr result (IsFaultOf (IsReadLog (D.told disk.old))) }
     ensures no_change { ChangesNothing D.Watched disk.old disk.new (IsFault result) }
@@ -94,6 +95,7 @@ fn with_next<D: Disk>(
     ensures reads { (state : DiskState) (read : Image) → D.told disk.old ≡ Some state → IsRead read state
         → IfOk result (FindsOneMore D.Held.bytes read number followed so_far) }
     ensures last { IfOk result (λ logs. IfSome logs.last (λ q. q.number ≡ number)) }
+    ensures runs { IfOk result (λ logs. All IsOneRun so_far.frozen.items → All IsOneRun logs.frozen.items) }
     ensures excused { IfErr result IsExcused }
     ensures at { IfErr result (IsFaultOf (λ at. at ≡ kinds.Log number)) }
     ensures no_change { ChangesNothing D.Watched disk.old disk.new (IsFault result) }
@@ -160,6 +162,7 @@ fn with_log<H: HeldFile>(
         → IfOk result (HasOneMore (standing_log log reading) followed so_far) }
     ensures sealed { IfOk result (λ logs. logs.sealed.items ≡ so_far.sealed.items ++ held_list held) }
     ensures number { IfOk result (λ logs. IfSome logs.last (λ q. q.number ≡ log.number)) }
+    ensures runs { IfOk result (λ logs. All IsOneRun so_far.frozen.items → All IsOneRun logs.frozen.items) }
 {
     let number = number_with(so_far.number, &log, followed);
     let last = LastLog {
@@ -259,8 +262,9 @@ fn with_frozen(
     number: u32,
     content: Content,
 ) -> Result<Vec<FrozenLog>, AllocError>
-    ensures { IfOk result (λ with. map frozen_log with.items ≡
+    ensures logs { IfOk result (λ with. map frozen_log with.items ≡
         map frozen_log frozen.items ++ held_content number content ∷ []) }
+    ensures runs { IfOk result (λ with. All IsOneRun frozen.items → All IsOneRun with.items) }
 {
     let mut with = frozen;
     let memtable = memtable_of(alloc, content.entries)?;

@@ -1,5 +1,6 @@
 // The memtable of a log that was read.
 ghost use Rattle.std.specs.Prelude.{◌≡◌, reverse, IfOk};
+ghost use Rattle.vl_memtable.specs.Lengths.{one_run};
 ghost use Rattle.vl_model.specs.Entries as order;
 
 use std::alloc::{AllocError, Global};
@@ -8,7 +9,8 @@ use vl_model::{Entry, entry_order};
 
 /// A memtable of these entries, of which the last counts most: all are sorted at once.
 pub fn memtable_of(alloc: Global, entries: Vec<Entry>) -> Result<Memtable, AllocError>
-    ensures { IfOk result (λ memtable. memtable.entries ≡ order.in_order (reverse entries.items)) }
+    ensures entries { IfOk result (λ memtable. memtable.entries ≡ order.in_order (reverse entries.items)) }
+    ensures runs { IfOk result (λ memtable. memtable.lengths ≡ one_run memtable.entries) }
 {
     let memtable = Memtable::new(alloc);
     let mut last_first = entries;

@@ -8,7 +8,7 @@ ghost use Rattle.vl_disk.specs.Disk.{Lists};
 ghost use Rattle.vl_disk.specs.DiskState.{DiskState};
 ghost use Rattle.vl_disk.specs.Started.{IsRead};
 ghost use Rattle.vl_disk.specs.declared.name.Name.TheVariants as kinds;
-ghost use Rattle.vl_recover.specs.opening.Finding.{FailsAtDisk, IsFaultOf, IsReadTable};
+ghost use Rattle.vl_recover.specs.opening.Finding.{FailsAtDisk, IsFault, IsFaultOf, IsReadTable};
 ghost use Rattle.vl_recover.specs.opening.OpenedTables.{IsTableFound};
 
 use crate::OpenError;
@@ -34,6 +34,8 @@ pub fn open_table<D: Disk>(
         → IfOk result (λ table. D.Held.bytes table.held ≡ get read (kinds.Table number)) }
     ensures at { IfErr result (IsFaultOf (IsReadTable (D.told disk.old))) }
     ensures fresh { IfOk result (λ _. D.Reader.faults reader.new ≡ 0) }
+    // What the reader failed at is answered as a fault.
+    ensures read_fault { (D.Reader.faults reader.new ≡ 0 → ⊥) → IsFault result }
     ensures no_change { ChangesNothing D.Watched disk.old disk.new (FailsAtDisk (D.Reader.faults reader.new) result) }
 {
     let name = Name::Table(number);

@@ -1,4 +1,4 @@
-ghost use Rattle.std.specs.Prelude.{◌≡◌, ◌+◌, ◌++◌, ◌≤◌, ℕ, List, length, None, Some, IfErr, IfOk, vec_capacity, vec_len};
+ghost use Rattle.std.specs.Prelude.{◌≡◌, ◌+◌, ◌++◌, ◌≤◌, ℕ, All, List, length, None, Some, IfErr, IfOk, vec_capacity, vec_len};
 ghost use Rattle.std.specs.Option.{ForSome};
 ghost use Rattle.vl_disk.specs.Calls.{ChangesNothing};
 ghost use Rattle.vl_disk.specs.Crash.{Image};
@@ -17,7 +17,8 @@ ghost use Rattle.vl_recover.specs.opening.FoundTables.{all_found};
 ghost use Rattle.vl_recover.specs.opening.HeldFiles.{AreHeldLogs, AreReadTables, AreWaiting, IsReadyToGoOn, tables_of};
 ghost use Rattle.vl_recover.specs.opening.Intact.{IsIntact, LeavesIntact};
 ghost use Rattle.vl_recover.specs.opening.Opening.{NamesNoTable};
-ghost use Rattle.vl_recover.specs.opening.Results.{FailsWithoutFault, IsDiskFault, recovery_of, disk_of, opened_of, read_faults};
+ghost use Rattle.vl_recover.specs.opening.Results.{FailsWithoutFault, HasFailed, IsDiskFault, IsOneRun};
+ghost use Rattle.vl_recover.specs.opening.Results.{recovery_of, disk_of, opened_of, read_faults};
 ghost use Rattle.vl_recover.specs.crash.Starts.{MayOpen};
 ghost use Rattle.vl_recover.specs.repairing.Steps.{MakesSome};
 
@@ -93,7 +94,9 @@ pub fn recover<D: Disk>(
         → FaultsAt read state (D.calls disk) (D.calls (disk_of result)) (recovery_of result) }
     ensures cause { HasCause (D.faults disk) (D.faults (disk_of result))
         (IsDiskFault (read_faults D.Reader.faults result) (recovery_of result)) }
-    // Where that reader counted a fault nothing was changed either.
+    // What that reader failed at is answered as a fault: not as want of memory, and not as damage.
+    ensures read_fault { (read_faults D.Reader.faults result ≡ 0 → ⊥) → HasFailed (recovery_of result) }
+    // Where it counted a fault nothing was changed either.
     ensures unmoved { (read_faults D.Reader.faults result ≡ 0 → ⊥) → ChangesNothing D.Watched disk (disk_of result) ⊥ }
     // Where no table is named it isn't asked.
     ensures unread { (state : DiskState) (read : Image) → D.told disk ≡ Some state → IsRead read state → NamesNoTable read
@@ -108,6 +111,8 @@ pub fn recover<D: Disk>(
     ensures waiting { (state : DiskState) (read : Image) (found : Finds read) → D.told disk ≡ Some state → IsRead read state
         → IfOk result (λ parts. AreWaiting found.opening.state.covered parts.waiting.items found.opening.logs) }
     ensures seven { IfOk result (λ parts. length parts.levels.items ≡ 7) }
+    // The memtable of each log is one run.
+    ensures runs { IfOk result (λ parts. All IsOneRun parts.frozen.items) }
 
     // The disk is ready for steps on files: no number that may still be given is taken. The log that takes commits has only its
     // header.
@@ -173,6 +178,7 @@ fn opened<D, H: HeldFile>(
     ensures room { result.room ≡ room }
     ensures active { result.active ≡ record { number = prepared.active; length = 16 } }
     ensures levels { result.levels ≡ held.levels }
+    ensures frozen { result.frozen ≡ prepared.frozen }
     ensures waiting { result.waiting ≡ prepared.waiting }
     ensures sealed { result.sealed.items ≡ held.sealed.items ++ listed last }
 {

@@ -1,6 +1,6 @@
 //! All that comes before the first change.
 
-ghost use Rattle.std.specs.Prelude.{◌≡◌, ◌+◌, ◌≤◌, length, Some, IfErr, IfOk, OnOk, vec_capacity, vec_len};
+ghost use Rattle.std.specs.Prelude.{◌≡◌, ◌+◌, ◌≤◌, All, length, Some, IfErr, IfOk, OnOk, vec_capacity, vec_len};
 ghost use Rattle.std.specs.Option.{ForSome};
 ghost use Rattle.vl_disk.specs.Calls.{ChangesNothing};
 ghost use Rattle.vl_disk.specs.Crash.{Image};
@@ -10,8 +10,9 @@ ghost use Rattle.vl_manifest.specs.States.{whole_edits};
 ghost use Rattle.vl_recover.specs.repairing.Deciding.{PreparesSo};
 ghost use Rattle.vl_recover.specs.opening.Answers.{Finds};
 ghost use Rattle.vl_recover.specs.opening.Opening.{NamesNoTable};
-ghost use Rattle.vl_recover.specs.opening.Finding.{FailsAtDisk, IsFaultAt};
+ghost use Rattle.vl_recover.specs.opening.Finding.{FailsAtDisk, IsFault, IsFaultAt};
 ghost use Rattle.vl_recover.specs.opening.HeldFiles.{AreHeldFound, AreReadTables, AreWaiting, tables_of};
+ghost use Rattle.vl_recover.specs.opening.Results.{IsOneRun};
 ghost use Rattle.vl_recover.specs.repairing.Fitting.{Fits, HasNumbers, IsReadyFor, IsReadyToMake, IsReadyToRepair};
 ghost use Rattle.vl_recover.specs.repairing.Fitting.{SameSpareBeside, SameSpareBesideLog};
 ghost use Rattle.vl_recover.specs.repairing.Holding.{IsHoldOf, IsReadyToHold};
@@ -52,9 +53,12 @@ pub(crate) fn prepare<D: Disk>(
     ensures waiting { (state : DiskState) (read : Image) (found : Finds read) → D.told disk.old ≡ Some state
         → IsRead read state
         → IfOk result (λ ready. AreWaiting found.opening.state.covered ready.0.waiting.items found.opening.logs) }
+    ensures runs { IfOk result (λ ready. All IsOneRun ready.0.frozen.items) }
     ensures numbered { IfOk result (λ ready. 1 ≤ ready.0.state.next_table) }
     ensures at { IfErr result (IsFaultAt (D.told disk.old)) }
     ensures fresh { IfOk result (λ _. D.Reader.faults reader.new ≡ 0) }
+    // What the reader failed at is answered as a fault.
+    ensures read_fault { (D.Reader.faults reader.new ≡ 0 → ⊥) → IsFault result }
     // Where no table is named the reader isn't asked.
     ensures unread { (state : DiskState) (read : Image) → D.told disk.old ≡ Some state → IsRead read state → NamesNoTable read
         → D.Reader.faults reader.new ≡ 0 }

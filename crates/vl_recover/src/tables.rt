@@ -6,7 +6,7 @@ ghost use Rattle.vl_disk.specs.Crash.{Image};
 ghost use Rattle.vl_disk.specs.Disk.{Lists};
 ghost use Rattle.vl_disk.specs.DiskState.{DiskState};
 ghost use Rattle.vl_disk.specs.Started.{IsRead};
-ghost use Rattle.vl_recover.specs.opening.Finding.{FailsAtDisk, IsFaultOf, IsReadTable};
+ghost use Rattle.vl_recover.specs.opening.Finding.{FailsAtDisk, IsFault, IsFaultOf, IsReadTable};
 ghost use Rattle.vl_recover.specs.opening.HeldFiles.{AreReadTables, tables_of};
 ghost use Rattle.vl_recover.specs.opening.Opening.{IsAbove, IsNamed, NamedLevel, NamedLevels, first_key, last_key};
 ghost use Rattle.vl_recover.specs.opening.FoundTables.{all_found, found_level, found_list, found_table};
@@ -38,6 +38,7 @@ pub fn open_tables<D: Disk>(
     ensures seven { IfOk result (λ opened. length opened.items ≡ 7) }
     ensures at { IfErr result (IsFaultOf (IsReadTable (D.told disk.old))) }
     ensures fresh { IfOk result (λ _. D.Reader.faults reader.new ≡ 0) }
+    ensures read_fault { (D.Reader.faults reader.new ≡ 0 → ⊥) → IsFault result }
     // Where no table is named the reader isn't asked.
     ensures unread { ((n : ℕ) → IsNamed levels.now n → ⊥) → D.Reader.faults reader.new ≡ 0 }
     ensures no_change { ChangesNothing D.Watched disk.old disk.new (FailsAtDisk (D.Reader.faults reader.new) result) }
@@ -72,6 +73,7 @@ fn open_level<D: Disk>(
         → IfOk result (λ opened. AreReadTables D.Held.bytes read opened.items) }
     ensures at { IfErr result (IsFaultOf (IsReadTable (D.told disk.old))) }
     ensures fresh { IfOk result (λ _. D.Reader.faults reader.new ≡ 0) }
+    ensures read_fault { (D.Reader.faults reader.new ≡ 0 → ⊥) → IsFault result }
     ensures unread { tables.now ≡ [] → D.Reader.faults reader.new ≡ 0 }
     ensures no_change { ChangesNothing D.Watched disk.old disk.new (FailsAtDisk (D.Reader.faults reader.new) result) }
 {

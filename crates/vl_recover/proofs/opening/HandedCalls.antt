@@ -11,6 +11,12 @@ use Rattle.vl_recover.proofs.opening.Unmoved.{call_as, then_call}
 false_true : false ≡ true → ⊥
 false_true e = cc
 
+-- a fault is handed on
+pub fault_answered : {B : Type 0} (e : OpenError) (result : Result B OpenError) → IsErr result → IsErrAnd result (λ f. f ≡ e)
+    → HasFailed (recovery_by e) → IsFault result
+fault_answered e (Ok x) failed same fault = absurd (false_true failed)
+fault_answered e (Err f) failed same fault = subst (λ (x : OpenError). HasFailed (recovery_by x)) (sym same) fault
+
 module _ {D : Type 0} (g : Ghosts D) (a b c : D) (before : ChangesNothing g a b ⊥) where
   -- a fault of the disk alone,
   pub fault_handed : {B : Type 0} (e : OpenError) (result : Result B OpenError) → IsErr result → IsErrAnd result (λ f. f ≡ e)

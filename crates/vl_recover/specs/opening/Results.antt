@@ -3,6 +3,7 @@ use Rattle.std.specs.Prelude.{◌≡◌, ℕ, map, Option, None, Some, Result, O
 use Rattle.vl_recover.specs.declared.fails.OpenFail.{OpenFail}
 use Rattle.vl_recover.specs.declared.fails.OpenError.{OpenError}
 use Rattle.vl_recover.specs.declared.fails.OpenError.TheVariants as why
+use Rattle.vl_memtable.specs.Lengths.{one_run}
 use Rattle.vl_memtable.specs.declared.frozen_log.FrozenLog.{FrozenLog}
 use Rattle.vl_recover.specs.declared.parts.Parts.{Parts}
 use Rattle.vl_recover.specs.opening.Answers.{Recovery, Faulted, HeldLog, NoMemory, Opened, Recovered, Refused, UsedUp}
@@ -11,6 +12,10 @@ use Rattle.vl_recover.specs.opening.Opening.{Damaged, NewerFormat, NotAStore}
 
 abbrev pub frozen_log : FrozenLog → HeldLog
 frozen_log f = record { number = f.number; length = f.length; entries = f.memtable.entries }
+
+-- Its memtable is one run: all entries of the log are sorted at once.
+abbrev pub IsOneRun : FrozenLog → Type 0
+IsOneRun f = f.memtable.lengths ≡ one_run f.memtable.entries
 
 abbrev pub opened_of : {D H : Type 0} → Parts D H → Opened
 opened_of parts = record {

@@ -1,14 +1,15 @@
 use Rattle.std.proofs.Common.{List, ℕ, ap, map, subst, sym, ◌∙◌}
-use Rattle.std.specs.Prelude.{Err, Ok, nat_lt}
+use Rattle.std.specs.Prelude.{All, Err, Ok, nat_lt}
 use Rattle.std.specs.List.{AllZip, filter}
 use Rattle.vl_recover.specs.declared.fails.OpenError.TheVariants as why
 use Rattle.vl_recover.specs.opening.FoundTables.{all_found, found_level}
 use Rattle.vl_recover.specs.opening.HeldFiles.{AreHeldFound, AreWaiting, IsReadLog}
 use Rattle.vl_recover.specs.opening.Leading.{AnswersStage}
 use Rattle.vl_recover.specs.opening.Opening.{NamedLogs, led_into}
+use Rattle.vl_recover.specs.opening.Results.{IsOneRun}
 use Rattle.vl_manifest.specs.declared.waiting.Waiting.{Waiting}
 use Rattle.vl_recover.proofs.opening.Composing.{found_handed, led_refuse, manifest_refuses, tables_refuse}
-use Rattle.vl_recover.proofs.opening.HandedCalls.{disk_fault_handed}
+use Rattle.vl_recover.proofs.opening.HandedCalls.{disk_fault_handed, fault_answered}
 use Rattle.vl_recover.proofs.opening.HeldLogs.{found_held, found_wait}
 use Rattle.vl_recover.proofs.opening.Unmoved.{as_disk_fault, calm_handed, then_call}
 use Rattle.vl_recover.proofs.find.find.Goals as goal
@@ -181,3 +182,14 @@ pub returns-in_err-levels-clause-unread : goal.returns-in_err-levels-clause-unre
 returns-in_err-levels-clause-unread g c state read told is none =
     c.in_err-levels.ensures.unread
     (none c.in_ok-state.state (c.in_ok-state.ensures.says state read (c.in_ok-names.ensures.no_change.told ∙ told) is))
+
+pub returns-in_err-levels-clause-read_fault : goal.returns-in_err-levels-clause-read_fault
+returns-in_err-levels-clause-read_fault g c some =
+    fault_answered c.in_err-levels.field-0.0 c.from_residual-in_err-levels.result c.from_residual-in_err-levels.ensures.0
+    c.from_residual-in_err-levels.ensures.1 (c.in_err-levels.ensures.read_fault some)
+
+-- ---- runs
+
+pub returns-clause-runs : goal.returns-clause-runs
+returns-clause-runs g c =
+    subst (λ (v : _). All IsOneRun v.items) (sym c.in_ok-findings.ensures.frozen) c.in_ok-logs.ensures.runs

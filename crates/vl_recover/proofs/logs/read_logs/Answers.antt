@@ -1,10 +1,12 @@
 use Rattle.std.proofs.Common.{◌≡◌, ◌+◌, drop, get_or, refl, sym, subst, ◌∙◌}
-use Rattle.std.specs.Prelude.{nat_lt}
+use Rattle.std.specs.Prelude.{All, nat_lt}
+use Rattle.std.proofs.lemmas.List.Elements.{All-nil}
 use Rattle.std.proofs.lemmas.List.{drop_all, drop_more}
 use Rattle.vl_disk.specs.Disk.{Stands}
 use Rattle.vl_disk.specs.declared.name.Name.{Name}
 use Rattle.vl_disk.specs.declared.name.Name.TheVariants.{Log}
 use Rattle.vl_recover.specs.opening.Finding.{IsReadLog}
+use Rattle.vl_recover.specs.opening.Results.{IsOneRun}
 use Rattle.vl_recover.proofs.opening.FaultNames.{handed_on}
 use Rattle.vl_recover.proofs.opening.Naming.{LogsToCome, all_to_come, next_come, none_come, not_come}
 use Rattle.vl_recover.proofs.opening.ReadingLogs.{all_held, all_read, all_wait, follows, last_named, listed, none_read, one_read}
@@ -16,6 +18,7 @@ loop-name-init g c = record {
   still = no_call g.D.Watched c.args.disk.now;
   come = all_to_come c.args.names.now c.args.head c.requires.rising;
   last = tt;
+  runs = subst (All IsOneRun) (sym c.new.ensures.items) (All-nil IsOneRun);
   reads = λ state read told is.
       none_read read c.args.names.now (listed read state c.args.names.now is (c.requires.lists state told)) g.D.Held.HeldFile.bytes
       c.args.lower.items c.args.head
@@ -33,6 +36,7 @@ loop-name-preserved-in_default g c =
           (subst (LogsToCome names c.loop-name.least) (drop_more names i (Log 0) c.loop-name-test.true) so.come)
           (sym c.log_from.ensures ∙ c.in_default.is);
       last = so.last;
+      runs = so.runs;
       reads = so.reads;
     }
 
@@ -48,6 +52,7 @@ loop-name-preserved g c =
       still = then_call g.D.Watched c.args.disk.now c.loop-name.disk c.with_next.new.disk ⊥ so.still c.in_ok-so_far.ensures.no_change;
       come = next.come;
       last = last_named names c.in-Some.number c.in_ok-so_far.so_far.last next.first.0.0 c.in_ok-so_far.ensures.last;
+      runs = c.in_ok-so_far.ensures.runs so.runs;
       reads = λ state read told is.
           one_read read names (listed read state names is (c.requires.lists state told)) g.D.Held.HeldFile.bytes c.args.lower.items
           c.args.head c.args.covered c.loop-name.least c.in-Some.number
@@ -103,3 +108,6 @@ returns-in_err-so_far-clause-at g c =
       stands = λ state told. subst (λ (n : Name). Stands n state) (sym is)
           (((c.requires.lists state told).all (Log c.in-Some.number)).0 next.first.0.0);
     }) c.with_next.ensures.at
+
+pub returns-clause-runs : goal.returns-clause-runs
+returns-clause-runs g c = c.loop-name.invariant.runs

@@ -1,7 +1,7 @@
-use Rattle.std.proofs.Common.{◌≡◌, ◌++◌, Option, ap, map, ◌∙◌}
-use Rattle.std.specs.Prelude.{ℕ, Some}
+use Rattle.std.proofs.Common.{◌≡◌, ◌++◌, Option, ap, map, subst, sym, ◌∙◌}
+use Rattle.std.specs.Prelude.{ℕ, All, Some}
 use Rattle.vl_recover.specs.opening.LogsSoFar.{number_before, waits_with}
-use Rattle.vl_recover.specs.opening.Results.{frozen_log}
+use Rattle.vl_recover.specs.opening.Results.{IsOneRun, frozen_log}
 use Rattle.vl_recover.specs.opening.Walk.{format_of, keeps_header}
 use Rattle.vl_recover.proofs.opening.OneLog.{frozen_with, frozen_without}
 use Rattle.vl_recover.proofs.logs.with_log.Goals as goal
@@ -20,7 +20,7 @@ returns-clause-one_more g c = λ reading is.
       number = c.number_with-number.ensures reading is;
       frozen = elim c.if-log.branch [
         | then-log+in_ok-frozen w ↦ frozen_with before log reading is olds news w.if-log.true
-            (ap (λ (v : _). map frozen_log v.items) w.frozen-is ∙ w.in_ok-frozen.ensures)
+            (ap (λ (v : _). map frozen_log v.items) w.frozen-is ∙ w.in_ok-frozen.ensures.logs)
         | else-log w ↦ frozen_without before log reading is olds news w.if-log.false
             (ap (λ (v : _). map frozen_log v.items) w.frozen-is)
       ];
@@ -35,3 +35,9 @@ returns-clause-one_more g c = λ reading is.
         has_frames = is.some i;
       });
     }
+
+pub returns-clause-runs : goal.returns-clause-runs
+returns-clause-runs g c before = elim c.if-log.branch [
+  | then-log+in_ok-frozen w ↦ subst (λ (v : _). All IsOneRun v.items) (sym w.frozen-is) (w.in_ok-frozen.ensures.runs before)
+  | else-log w ↦ subst (λ (v : _). All IsOneRun v.items) (sym w.frozen-is) before
+]

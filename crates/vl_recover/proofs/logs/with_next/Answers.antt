@@ -42,3 +42,6 @@ returns-clause-reads g c = λ state read told is.
           found.read_as.format_is held
           c.in_ok-with_log.ensures.sealed;
     }
+
+pub returns-clause-runs : goal.returns-clause-runs
+returns-clause-runs g c before = c.in_ok-with_log.ensures.runs before

@@ -1,11 +1,12 @@
-use Rattle.std.proofs.Common.{List, [], ◌∷◌, ap, refl, ◌∙◌}
+use Rattle.std.proofs.Common.{List, [], ◌∷◌, ap, refl, subst, sym, ◌∙◌}
+use Rattle.std.specs.Prelude.{All}
 use Rattle.vl_manifest.specs.declared.edit.Edit.{Edit}
 use Rattle.vl_manifest.specs.declared.manifest_log.ManifestLog.{ManifestLog}
 use Rattle.vl_manifest.specs.Manifest.{manifest_bytes}
 use Rattle.vl_recover.specs.laws.opening.OneFinding.{opened_not}
 use Rattle.vl_recover.specs.repairing.PlanViews.{manifest_of, plan_view}
 use Rattle.vl_recover.specs.opening.FoundTables.{all_found}
-use Rattle.vl_recover.specs.opening.Results.{recovery_by}
+use Rattle.vl_recover.specs.opening.Results.{IsOneRun, recovery_by}
 use Rattle.vl_recover.proofs.crash.IntactAfter.{intact_after, intact_throughout}
 use Rattle.vl_recover.proofs.crash.Recovered.{as_long, fault_counted, fault_of, frame_failed, frame_is, goes_on_ready}
 use Rattle.vl_recover.proofs.crash.Recovered.{calls_counted, calls_stopped, none_made, disk_repaired, repaired_again}
@@ -220,6 +221,10 @@ returns-in-Ok-repair-clause-waiting g c state read found told is_read =
 pub returns-in-Ok-repair-clause-seven : goal.returns-in-Ok-repair-clause-seven
 returns-in-Ok-repair-clause-seven g c = rw c.opened.ensures.levels c.in-Ok-prepare.ensures.seven
 
+pub returns-in-Ok-repair-clause-runs : goal.returns-in-Ok-repair-clause-runs
+returns-in-Ok-repair-clause-runs g c =
+    subst (λ (v : _). All IsOneRun v.items) (sym c.opened.ensures.frozen) c.in-Ok-prepare.ensures.runs
+
 pub opened-requires-clause-place : goal.opened-requires-clause-place
 opened-requires-clause-place g c = c.in-Ok-prepare.ensures.place
 
@@ -308,3 +313,19 @@ returns-in-Ok-repair-clause-unmoved g c some = absurd (some refl)
 
 pub returns-in_default-clause-unmoved : goal.returns-in_default-clause-unmoved
 returns-in_default-clause-unmoved g c some = absurd (some refl)
+
+-- which is answered
+pub returns-in-Err-clause-read_fault : goal.returns-in-Err-clause-read_fault
+returns-in-Err-clause-read_fault g c some = c.in-Err.ensures.read_fault some
+
+pub returns-in-Err-NoMemory-clause-read_fault : goal.returns-in-Err-NoMemory-clause-read_fault
+returns-in-Err-NoMemory-clause-read_fault g c some = absurd (some c.in-Ok-prepare.ensures.fresh)
+
+pub returns-clause-read_fault : goal.returns-clause-read_fault
+returns-clause-read_fault g c some = absurd (some c.in-Ok-prepare.ensures.fresh)
+
+pub returns-in-Ok-repair-clause-read_fault : goal.returns-in-Ok-repair-clause-read_fault
+returns-in-Ok-repair-clause-read_fault g c some = absurd (some refl)
+
+pub returns-in_default-clause-read_fault : goal.returns-in_default-clause-read_fault
+returns-in_default-clause-read_fault g c some = absurd (some refl)

@@ -1,11 +1,14 @@
 use Rattle.std.proofs.Common.{◌∙◌, List, subst, sym}
+use Rattle.std.specs.Prelude.{All}
 use Rattle.vl_manifest.specs.declared.waiting.Waiting.{Waiting}
 use Rattle.vl_recover.specs.opening.HeldFiles.{AreWaiting}
+use Rattle.vl_recover.specs.opening.Results.{IsOneRun}
 use Rattle.vl_recover.specs.laws.opening.ReadImage.{read_image}
 use Rattle.vl_recover.proofs.opening.Decided.{answer_by, decided_answer, decided_at, decided_prepared, decided_ready}
 use Rattle.vl_recover.proofs.repairs.Fitted.{found_fits}
 use Rattle.vl_recover.proofs.opening.Numbers.{decided_numbers, decided_table}
 use Rattle.vl_recover.proofs.repairs.Holding.{decided_holds}
+use Rattle.vl_recover.proofs.opening.HandedCalls.{fault_answered}
 use Rattle.vl_recover.proofs.opening.Unmoved.{then_call}
 use Rattle.vl_recover.proofs.prepare.prepare.Goals as goal
 
@@ -75,3 +78,11 @@ returns-clause-waiting g c state read finds told is =
 
 pub returns-clause-numbered : goal.returns-clause-numbered
 returns-clause-numbered g c = decided_table c.in_ok-found.found c.in_ok-prepared.prepared.state c.in_ok-prepared.ensures.state
+
+pub returns-in_err-found-clause-read_fault : goal.returns-in_err-found-clause-read_fault
+returns-in_err-found-clause-read_fault g c some =
+    fault_answered c.in_err-found.field-0.0 c.from_residual.result c.from_residual.ensures.0 c.from_residual.ensures.1
+    (c.in_err-found.ensures.read_fault some)
+
+pub returns-clause-runs : goal.returns-clause-runs
+returns-clause-runs g c = subst (All IsOneRun) (sym c.in_ok-prepared.ensures.frozen) c.in_ok-found.ensures.runs

@@ -8,7 +8,7 @@ use Rattle.vl_recover.specs.opening.HeldFiles.{AreReadTables}
 use Rattle.vl_recover.specs.opening.OpenedTables.{last_before}
 use Rattle.vl_recover.specs.opening.Opening.{FoundTable, NamedLevel}
 use Rattle.vl_recover.proofs.opening.FaultNames.{handed_on}
-use Rattle.vl_recover.proofs.opening.HandedCalls.{disk_fault_handed, no_fault_handed}
+use Rattle.vl_recover.proofs.opening.HandedCalls.{disk_fault_handed, fault_answered, no_fault_handed}
 use Rattle.vl_recover.proofs.opening.Handing.{as_handed}
 use Rattle.vl_recover.proofs.opening.NamingTables.{AreOpened, all_opened, found_more, held_more, next_refused}
 use Rattle.vl_recover.proofs.opening.NamingTables.{no_held, not_next_handed, none_opened, one_opened, table_refused}
@@ -112,3 +112,8 @@ returns-in_err-table-clause-unread g c none =
 
 pub returns-in_err-opened-clause-unread : goal.returns-in_err-opened-clause-unread
 returns-in_err-opened-clause-unread g c none = c.in_ok-table.ensures.fresh
+
+pub returns-in_err-table-clause-read_fault : goal.returns-in_err-table-clause-read_fault
+returns-in_err-table-clause-read_fault g c some =
+    fault_answered c.in_err-table.field-0.0 c.from_residual.result c.from_residual.ensures.0 c.from_residual.ensures.1
+    (c.in_err-table.ensures.read_fault some)

@@ -8,7 +8,7 @@ use Rattle.vl_recover.specs.opening.FoundTables.{all_found, found_level}
 use Rattle.vl_recover.specs.opening.HeldFiles.{AreReadTables, tables_of}
 use Rattle.vl_recover.specs.opening.Opening.{FoundTable, IsAmong, IsNamed, NamedLevel, NamedLevels}
 use Rattle.vl_recover.proofs.opening.FaultNames.{handed_on}
-use Rattle.vl_recover.proofs.opening.HandedCalls.{disk_fault_handed, no_fault_handed}
+use Rattle.vl_recover.proofs.opening.HandedCalls.{disk_fault_handed, fault_answered, no_fault_handed}
 use Rattle.vl_recover.proofs.opening.Handing.{as_handed, of_stage}
 use Rattle.vl_recover.proofs.opening.NamingTables.{AreLevelsOpened, level_held, level_refused, levels_more}
 use Rattle.vl_recover.proofs.opening.NamingTables.{levels_opened, no_held, no_levels, one_level}
@@ -129,3 +129,8 @@ returns-in_err-tables-clause-unread g c none =
     c.in_err-tables.ensures.unread (unnamed_level levels i ns (drop (i + 1) levels)
     (next_list levels i c.list-item.result ns c.loop-list-test.true c.list-item.is c.as_slice.ensures)
     (λ n named. none n (subst (λ (all : List (List ℕ)). IsNamed all n) c.as_slice-list-items.ensures named)))
+
+pub returns-in_err-tables-clause-read_fault : goal.returns-in_err-tables-clause-read_fault
+returns-in_err-tables-clause-read_fault g c some =
+    fault_answered c.in_err-tables.field-0.0 c.from_residual.result c.from_residual.ensures.0 c.from_residual.ensures.1
+    (c.in_err-tables.ensures.read_fault some)
