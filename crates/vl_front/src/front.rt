@@ -35,13 +35,14 @@ pub struct Front {
 
 impl Front {
     ghost use Rattle.vl_front.specs.Decisions.{decision_of, running_decision, room_decision, MayWrite};
-    ghost use Rattle.vl_front.specs.Front.{Knows, IsSame, SameLog};
+    ghost use Rattle.vl_front.specs.Front.{IsPruned, IsSame, Knows, SameLog};
 
     /// Nothing is live after this last commit.
     pub fn new(alloc: Global, last: u64, log: ActiveLog, room: u64) -> Self
         ensures oracle { result.oracle ≡ record { last = last; tickets = [] } }
         ensures log { (result.log ≡ log) × (result.room ≡ room) × (result.halted ≡ None) }
         ensures knows { (h : History) → last_number h ≡ last → Knows result h }
+        ensures pruned { IsPruned result }
     {
         Front {
             oracle: Oracle::new(alloc, last),
@@ -75,6 +76,7 @@ impl Front {
         ensures keys { IfOk result (λ keys. keys.items ≡ keys_of (entries writes.now)) }
         ensures room { IfOk result (λ keys. vec_len keys ≤ self.new.recent.room) }
         ensures same { IsSame self.old self.new }
+        ensures pruned { IsPruned self.old → IsPruned self.new }
     {
         let keys = shared_keys(alloc, writes)?;
         self.recent.reserve(keys.len())?;
@@ -90,6 +92,8 @@ impl Front {
         ensures log { SameLog self.old self.new }
         ensures knows { (h : History) (writes : Writes) → Knows self.old h → keys.items ≡ keys_of (entries writes)
             → Knows self.new (with_commit h writes) }
+        // What nobody can ask any more is forgotten.
+        ensures pruned { IsPruned self.new }
     {
         let number = self.oracle.last() + 1;
         note_all(&mut self.recent, keys, number);
@@ -105,6 +109,7 @@ impl Front {
         ensures err { OnErr result (self.new ≡ self.old) }
         ensures log { SameLog self.old self.new }
         ensures knows { (h : History) → Knows self.old h → Knows self.new h }
+        ensures pruned { IsPruned self.old → IsPruned self.new }
     {
         self.oracle.begin()
     }
@@ -114,6 +119,7 @@ impl Front {
         ensures oracle { self.new.oracle ≡ ended ticket self.old.oracle }
         ensures log { SameLog self.old self.new }
         ensures knows { (h : History) → Knows self.old h → Knows self.new h }
+        ensures pruned { IsPruned self.new }
     {
         self.oracle.end(ticket);
         self.recent.prune(self.oracle.floor());

@@ -311,6 +311,30 @@ floor-begun live are after =
           (low_le_last live.last live.tickets) (omega arith),
     )
 
+low_of-put-le : (last ticket : ℕ) (live : List Ticket) → find nat_cmp ticket live ≡ None
+    → low_of last (put nat_cmp ticket last live) ≤ low_of last live
+low_of-put-le last ticket [] none = omega arith
+low_of-put-le last ticket (t ∷ ts) none = by_order_of (nat_cmp ticket t.0) (low_of-put-le last ticket ts) none
+  where
+    by_order_of : (r : Ordering) → (find nat_cmp ticket ts ≡ None → low_of last (put nat_cmp ticket last ts) ≤ low_of last ts)
+        → cond (is_eq r) (Some t.1) (find nat_cmp ticket ts) ≡ None
+        → low_of last (by_order r ((ticket, last) ∷ t ∷ ts) ((t.0, last) ∷ ts) (t ∷ put nat_cmp ticket last ts))
+        ≤ low_of last (t ∷ ts)
+    by_order_of Less further is = omega arith
+    by_order_of Equal further is = cc
+    by_order_of Greater further is = let later = further is in omega arith
+
+-- what begins reads at the last number, so the floor stays
+pub floor-begun-same : (live : LiveTickets) → AreLive live → AreLive (begun live) → floor_of (begun live) ≡ floor_of live
+floor-begun-same live are after =
+    omega (
+      arith,
+      floor-begun live are after,
+      floor_of-low_of live are,
+      floor_of-low_of (begun live) after,
+      low_of-put-le live.last (free_ticket live) live.tickets (find-free_ticket live are.rising),
+    )
+
 pub floor-ended : (ticket : ℕ) (live : LiveTickets) → AreLive live → AreLive (ended ticket live)
     → floor_of live ≤ floor_of (ended ticket live)
 floor-ended ticket live are after = omega

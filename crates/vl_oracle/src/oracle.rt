@@ -58,6 +58,7 @@ impl Oracle {
         ensures too_many { (result ≡ Err BeginFail.TooMany) ↔ (length self.old.tickets ≡ max_live) }
         ensures err { OnErr result (self.new ≡ self.old) }
         ensures floor { floor_of self.old ≤ floor_of self.new }
+        ensures floor_stays { floor_of self.new ≡ floor_of self.old }
     {
         if self.live.len() >= MAX_LIVE as usize {
             return Err(BeginFail::TooMany);

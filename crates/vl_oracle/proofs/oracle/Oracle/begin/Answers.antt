@@ -1,4 +1,4 @@
-use Rattle.std.proofs.Common.{ℕ, ◌≤◌, ◌<◌, List, length, ap, sym, ◌∙◌, subst, arith}
+use Rattle.std.proofs.Common.{◌≡◌, ℕ, ◌≤◌, ◌<◌, List, length, ap, sym, ◌∙◌, subst, arith}
 use Rattle.std.specs.Ordering.{nat_cmp}
 use Rattle.std.specs.FinMap.{is_sorted}
 use Rattle.std.specs.List.{insert}
@@ -6,7 +6,7 @@ use Rattle.std.specs.BTreeMap.{get}
 use Rattle.vl_model.specs.Limits.{max_live}
 use Rattle.vl_oracle.specs.LiveTickets.{LiveTickets, Ticket, begun, free_from, free_ticket, floor_of}
 use Rattle.vl_oracle.specs.Counts.{IsKept}
-use Rattle.vl_oracle.proofs.Tickets.{kept-begun, kept-undone, floor-begun, few_uses, free_below}
+use Rattle.vl_oracle.proofs.Tickets.{kept-begun, kept-undone, floor-begun, floor-begun-same, few_uses, free_below}
 use Rattle.vl_oracle.proofs.LiveLaws.{as_T}
 use Rattle.vl_oracle.proofs.Places.{insert-free}
 use Rattle.vl_oracle.proofs.oracle.Oracle.begin.Goals as goal
@@ -70,3 +70,16 @@ returns-in-Ok-clause-floor c =
     let floors = floor-begun live c.self.invariant.are after.are in
     subst (λ (ts : List Ticket). floor_of c.args.self.now ≤ floor_of (record { last = live.last; tickets = ts })) (sym entries)
     (subst (λ (l : LiveTickets). floor_of l ≤ floor_of (begun live)) c.self.view_is floors)
+
+pub returns-in-Ok-clause-floor_stays : goal.returns-in-Ok-clause-floor_stays
+returns-in-Ok-clause-floor_stays c =
+    let live : LiveTickets = record { last = c.self.inside.last; tickets = c.self.inside.live.items } in
+    let room : length live.tickets < max_live = omega (arith, c.len.ensures, c.if-len.false, c.self.inside.live.ok) in
+    let free = c.free_ticket-ticket.ensures.free ∙ ap (free_from 0) c.deref.ensures.value in
+    let entries = c.in-Ok.ensures.items ∙ ap (λ (t : ℕ). insert live.tickets t (t, live.last)) free
+    ∙ insert-free live.last live.tickets (as_T (is_sorted nat_cmp live.tickets) c.self.invariant.are.rising) in
+    let after = kept-begun live (get nat_cmp c.self.inside.numbers) c.self.invariant (get nat_cmp c.add.new.numbers)
+    room c.in_ok-add.ensures.ok in
+    let floors = floor-begun-same live c.self.invariant.are after.are in
+    subst (λ (ts : List Ticket). floor_of (record { last = live.last; tickets = ts }) ≡ floor_of c.args.self.now) (sym entries)
+    (subst (λ (l : LiveTickets). floor_of (begun live) ≡ floor_of l) c.self.view_is floors)
