@@ -8,6 +8,5 @@ pub mod Manifest
 pub mod Reading
 pub mod States
 pub mod Switching
-pub mod Tables
 -- Laws of these, which proofs of this crate and of others cite.
 pub mod laws

@@ -7,6 +7,5 @@ pub mod ManifestLaws
 pub mod StateLaws
 pub mod SwitchLaws
 pub mod TableLists
-pub mod TableLaws
 pub mod TornRuns
 pub mod WholeLaws

@@ -16,7 +16,6 @@ mod staged;
 mod state;
 mod switch;
 mod table_list;
-mod tables;
 mod version_builder;
 mod waiting;
 mod writer;

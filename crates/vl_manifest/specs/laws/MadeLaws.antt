@@ -1,6 +1,6 @@
 -- What is read of a manifest that was being made of a whole state.
 use Rattle.std.specs.Prelude.{◌≡◌, ◌⊎◌, ◌+◌, ◌==◌, ◌&&◌, ◌<◌, ◌≤◌, ◌^◌, ℕ, Bool, true, false, bytes_eq, if◌then◌else◌}
-use Rattle.std.specs.Prelude.{nat_le, zero, suc, List, [], ◌∷◌, ◌++◌, drop, length, take, Option, None, Some, refl}
+use Rattle.std.specs.Prelude.{nat_le, zero, suc, List, [], ◌∷◌, ◌++◌, drop, length, take, Option, refl}
 use Rattle.std.specs.List.{AllByRecursion}
 use Rattle.std.proofs.Common.{sym, ap, subst, ◌∙◌, inl, inr, ⊎_elim, arith}
 use Rattle.std.proofs.lemmas.Bool.{cases_Bool, cases_lt}
@@ -20,11 +20,9 @@ use Rattle.vl_manifest.specs.Edits.{IsEdit}
 use Rattle.vl_manifest.specs.Formats.{gone_format, keep_format}
 use Rattle.vl_manifest.specs.Grammar.{edits_grammar}
 use Rattle.vl_manifest.specs.Levels.{no_tables}
-use Rattle.vl_manifest.specs.Manifest.{HasHeader, IsReadable, ReadsManifest, SaysState, manifest_bytes}
+use Rattle.vl_manifest.specs.Manifest.{HasHeader, IsReadable, ReadsManifest, SaysState}
 use Rattle.vl_manifest.specs.States.{adds_from, as_read, gone_edits, keep_edits, last_edits, read_in, state_behind, state_then, whole_edits}
-use Rattle.vl_manifest.specs.Tables.{SaysBareState, names_tables, read}
 use Rattle.vl_manifest.specs.laws.EditLaws.{edits_later}
-use Rattle.vl_manifest.specs.laws.ManifestLaws.{manifest_reads, whole_said}
 use Rattle.vl_manifest.specs.laws.StateLaws.{IsInRange}
 use Rattle.vl_manifest.specs.laws.WholeLaws.{whole_says}
 
@@ -33,16 +31,6 @@ use Rattle.vl_manifest.specs.laws.WholeLaws.{whole_says}
 module _ (s : ManifestState) (bare : s.levels ≡ no_tables) where
   bare_edits : whole_edits s ≡ last_edits s
   bare_edits = ap (λ (l : List (List ℕ)). adds_from 0 l ++ last_edits s) bare
-
-  names_none : names_tables (whole_edits s) ≡ false
-  names_none = ap names_tables bare_edits ∙ by (s.keep == 1 && s.since == 0) (s.gone == 0)
-    where
-      by : (b c : Bool) → names_tables (Head s.head s.covered ∷ Next s.next_log s.next_table
-          ∷ ((if b then [] else Keep s.keep s.since ∷ []) ++ (if c then [] else Gone s.gone ∷ []))) ≡ false
-      by true true = refl
-      by true false = refl
-      by false true = refl
-      by false false = refl
 
   -- It has a frame.
   pub bare_has_frame : IsInRange s → HasFrame (edits_grammar manifest_format) (whole_edits s)
@@ -68,16 +56,6 @@ module _ (s : ManifestState) (bare : s.levels ≡ no_tables) where
       by false true = record { lawful = record { few = omega arith; each = (head, (next, (keep, tt))) }; short = omega arith }
       by false false =
           record { lawful = record { few = omega arith; each = (head, (next, (keep, (gone, tt)))) }; short = omega arith }
-
-  -- A manifest that is made of it says it.
-  pub bare_manifest : (number : ℕ) → IsInRange s → number < 2 ^ 32 → SaysBareState number (manifest_bytes number (whole_edits s ∷ [])) s
-  bare_manifest number r fits =
-      let reads = manifest_reads number (whole_edits s ∷ []) fits (bare_has_frame r, tt) in
-      record {
-        says = whole_said number s (manifest_bytes number (whole_edits s ∷ [])) r reads;
-        bare = read manifest_format reads.header
-            (whole_edits s ∷ [], reads.reads, ap (λ (b : Bool). if b then Some 16 else None) names_none);
-      }
 
 -- ---- a manifest that was being made
 
