@@ -6,12 +6,16 @@ mod KeepRemoved
 pub mod LeftRemoved
 mod Leveled
 mod MergeRemoved
+mod MergedExits
 mod MoveRemoved
+mod OpenedRuns
 mod PassLaws
 mod Picking
 mod PutLeft
 mod PutThere
+mod Refusing
 pub mod Retired
+mod StockExits
 pub mod Sweeps
 mod Switching
 pub mod UnderWay

@@ -98,6 +98,18 @@ module _ {H W : Type 0} (before : Core H) where
   FlushesStock after old new tally lent (Ok None) = ⊥
   FlushesStock after old new tally lent (Err why) = StaysUsed before old new
 
+  -- The same of a whole rotation and a whole flush: where nothing is done, what is kept of files stays.
+  abbrev pub RotatesStock : {s : _} → (old new : Stock (Lent W s)) → (lent : ℕ) → Result (Option ℕ) StepFail → Type 0
+  RotatesStock old new lent (Ok (Some number)) = SealsInto before old new lent
+  RotatesStock old new lent (Ok None) = StaysUsed before old new
+  RotatesStock old new lent (Err why) = StaysUsed before old new
+
+  abbrev pub RetiresFlushed : {s : _} → (after : Core H) → (old new : Stock (Lent W s)) → Option Tallied → (lent : ℕ)
+      → Result (Option ℕ) StepFail → Type 0
+  RetiresFlushed after old new tally lent (Ok (Some number)) = SwitchesStock before after (number ∷ []) [] tally old new lent
+  RetiresFlushed after old new tally lent (Ok None) = StaysUsed before old new
+  RetiresFlushed after old new tally lent (Err why) = StaysUsed before old new
+
 abbrev pub InstallsStock : {H R W : Type 0} {s : _} → (job : Job (Base H R) H W s) → (before after : Core H)
     → (old new : Removing (Lent W s)) → Option Tallied → (lent : ℕ)
     → Result (Unit {0}) (InstallFail (Base H R) H W s) → Type 0
@@ -110,3 +122,19 @@ InstallsStock job before after old new tally lent (Err (install.Exhausted counte
 InstallsStock job before after old new tally lent (Err (install.NoMemory back)) =
     (new.pins ≡ old.pins) × StaysUsed before old.stock new.stock
 InstallsStock job before after old new tally lent (Err (install.Disk name)) = new.pins ≡ (merge_pinned None old).pins
+
+-- The same of a whole install. Where its merge ended without its tables, its files wait; where it was handed back, all stays.
+abbrev pub RetiresInstalled : {H R W : Type 0} {s : _} → (job : Job (Base H R) H W s) → (before after : Core H)
+    → (old new : Removing (Lent W s)) → Option Tallied → (lent : ℕ)
+    → Result (Unit {0}) (InstallFail (Base H R) H W s) → Type 0
+RetiresInstalled job before after old new tally lent (Ok done) =
+    (new.pins ≡ (merge_pinned None old).pins) × InstallsInto job before after tally old.stock new.stock lent
+RetiresInstalled job before after old new tally lent (Err (install.Halted name)) =
+    (new.pins ≡ (merge_pinned None old).pins) × LeavesFiles (files_in job) old.stock new.stock
+RetiresInstalled job before after old new tally lent (Err (install.Raced key number)) =
+    (new.pins ≡ (merge_pinned None old).pins) × LeavesFiles (files_in job) old.stock new.stock
+RetiresInstalled job before after old new tally lent (Err (install.Exhausted counter)) =
+    (new.pins ≡ (merge_pinned None old).pins) × LeavesFiles (files_in job) old.stock new.stock
+RetiresInstalled job before after old new tally lent (Err (install.NoMemory back)) =
+    (new.pins ≡ old.pins) × StaysUsed before old.stock new.stock
+RetiresInstalled job before after old new tally lent (Err (install.Disk name)) = new.pins ≡ (merge_pinned None old).pins

@@ -1,4 +1,5 @@
 //! What merges fail by that are done here and now.
+ghost use Rattle.std.specs.Prelude.{◌≡◌};
 
 use thiserror::Error;
 use vl_disk::{Name, NoMemory, ReadFault};
@@ -28,12 +29,20 @@ pub enum MergeFail {
 }
 
 impl From<NoMemory> for MergeFail {
+    ghost use Rattle.vl_engine.specs.declared.fails.MergeFail.TheVariants as why;
+
+    ghost from_gives = { λ _ e. e ≡ why.NoMemory };
+
     fn from(_: NoMemory) -> Self {
         MergeFail::NoMemory
     }
 }
 
 impl From<StepFail> for MergeFail {
+    ghost use Rattle.vl_engine.specs.Refusals.{of_step};
+
+    ghost from_gives = { λ fail e. e ≡ of_step fail };
+
     fn from(fail: StepFail) -> Self {
         match fail {
             StepFail::Halted { name } => MergeFail::Halted { name },
@@ -45,6 +54,10 @@ impl From<StepFail> for MergeFail {
 }
 
 impl From<ReadFault> for MergeFail {
+    ghost use Rattle.vl_engine.specs.Refusals.{of_read};
+
+    ghost from_gives = { λ fault e. e ≡ of_read fault };
+
     fn from(fault: ReadFault) -> Self {
         match fault {
             ReadFault::NoMemory => MergeFail::NoMemory,

@@ -21,6 +21,7 @@ use Rattle.vl_engine_model.specs.Rulings.Pick as pick
 use Rattle.vl_engine_model.specs.Tidy.{log_numbers, sealed}
 use Rattle.vl_engine_model.specs.declared.job.OpenPass.{OpenPass}
 use Rattle.vl_engine_model.specs.declared.layout.Layout.{Layout}
+use Rattle.vl_engine_model_laws.specs.Calls.{Call, EndPass, Flush, Install, Pick, Rotate}
 use Rattle.vl_model.specs.History.{History}
 use Rattle.vl_model.specs.Numbers.{has}
 use Rattle.vl_seglog.specs.declared.sealed.SealedLog.{SealedLog}
@@ -60,6 +61,15 @@ pub record Collects {H : Type 0} (core : Core H) (kept : Collecting) (l : Layout
   pub passing : kept.passing ≡ passed_in l
   -- a pass that begins finds each frame of its log
   pub readable : AreReadable l
+
+-- It seals no log, switches no tables, and neither begins nor ends a pass: so it leaves what is kept of space.
+abbrev pub LeavesSpace : Call → Type 0
+LeavesSpace Rotate = ⊥
+LeavesSpace Flush = ⊥
+LeavesSpace (Install job made) = ⊥
+LeavesSpace (Pick percent) = ⊥
+LeavesSpace (EndPass pass) = ⊥
+LeavesSpace call = Unit {0}
 
 -- a store that was just opened: no pass is open, and how much is live isn't known yet
 abbrev pub nothing_collected : Collecting

@@ -14,3 +14,4 @@ pub mod Sweeps
 pub mod TallyBegun
 pub mod Tallying
 pub mod There
+pub mod Unchanged

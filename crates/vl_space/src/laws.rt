@@ -1,5 +1,6 @@
-// Laws of sweeps: each is the contract of a function that does nothing.
-ghost use Rattle.std.specs.Prelude.{ℕ, Some};
+//! Laws of what is kept of space: each is the contract of a function that does nothing.
+
+ghost use Rattle.std.specs.Prelude.{◌≡◌, ℕ, Some};
 ghost use Rattle.vl_disk.specs.Crash.{WhileRemoving};
 ghost use Rattle.vl_disk.specs.DiskState.{DiskState, File, IsLawful, without};
 ghost use Rattle.vl_disk.specs.Lending.{WhileAdopting, adopted};
@@ -8,11 +9,25 @@ ghost use Rattle.vl_disk.specs.declared.name.Name.{Name};
 ghost use Rattle.vl_engine_laws.specs.Held.{Base, Holds, IsBase};
 ghost use Rattle.vl_engine_laws.specs.Pointed.{layout_logs};
 ghost use Rattle.vl_engine_laws.specs.Shown.{LeavesBetween};
+ghost use Rattle.vl_engine_laws.specs.declared.kept.Core.{Core};
+ghost use Rattle.vl_engine_model_laws.specs.Calls.{Call, ruling_on};
+ghost use Rattle.vl_space.specs.Collecting.{Collects, LeavesSpace};
+ghost use Rattle.vl_space.specs.declared.kept.Collecting.{Collecting};
 ghost use Rattle.vl_space.specs.laws.SweepHolds.{IsOutside};
 ghost use Rattle.vl_engine_model.specs.Tidy.{IsTidy};
 ghost use Rattle.vl_engine_model.specs.declared.layout.Layout.{Layout};
 ghost use Rattle.vl_model.specs.History.{History};
 ghost use Rattle.vl_recover.specs.crash.Starts.{MayOpen};
+
+use vl_disk::HeldFile;
+
+/// What is kept of where space comes back from is the new layout's behind each call that seals no log, switches no tables, and
+/// neither begins nor ends a pass. Such a call leaves what is kept, and the version's logs, as they are.
+pub fn other_calls_leave_what_is_collected<H: HeldFile>()
+    ensures { (before after : Core H) (kept : Collecting) (l : Layout) (h : History) (call : Call) → LeavesSpace call
+        → after.version.behind.logs ≡ before.version.behind.logs → Collects before kept l
+        → Collects after kept (ruling_on call l h).layout }
+{}
 
 /// While a file that a layout doesn't need is removed, whatever a crash leaves shows the history; and behind it the disk holds the
 /// layout. So it is with a file that was lent, whatever was written there, and that is taken back first.

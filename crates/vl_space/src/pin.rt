@@ -1,6 +1,6 @@
 //! How what lives is pinned.
 ghost use Rattle.std.specs.Prelude.{◌≡◌, ◌≢◌, ℕ, Err, IfOk, OnErr, OnOk, length};
-ghost use Rattle.vl_front.specs.Front.{Knows, SameLog};
+ghost use Rattle.vl_front.specs.Front.{IsPruned, Knows, SameLog};
 ghost use Rattle.vl_engine_model.specs.Rulings.Begin.{begun as begun_there};
 ghost use Rattle.vl_engine_model.specs.Tickets.{free_ticket as free_there, tickets_of};
 ghost use Rattle.vl_engine_model.specs.declared.layout.Layout.{Layout};
@@ -23,6 +23,7 @@ pub fn begin(front: &mut Front, pins: &mut Pins, epoch: u64) -> Result<u32, Begi
     ensures err { OnErr result (front.new ≡ front.old) }
     ensures log { SameLog front.old front.new }
     ensures knows { (h : History) → Knows front.old h → Knows front.new h }
+    ensures pruned { IsPruned front.old → IsPruned front.new }
     ensures pins { PinsAs epoch pins.old pins.new result }
 
     // So it is pinned as a layout has it.

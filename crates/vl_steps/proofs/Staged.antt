@@ -82,6 +82,10 @@ module _ (log : ActiveLog) (number : ℕ) (writes : List (List ℕ × Change)) (
   staged_entries =
       ap (commit_entries number writes) lead ∙ entries_lead log_format log.number (log.length + 17) number writes
 
+  -- as many as the writes,
+  pub staged_many : length (commit_entries number writes pointers) ≡ length writes
+  staged_many = ap length staged_entries ∙ entries_many log_format log.number (log.length + 17) number writes
+
   -- of which there are some,
   pub staged_some : 1 ≤ length writes → 0 < length (commit_entries number writes pointers)
   staged_some some =

@@ -1,5 +1,5 @@
 -- What a call came to, as the ruling on it has it, and how many changing calls it made.
-use Rattle.std.specs.Prelude.{◌≡◌, Option, None, Some, Result, Ok, Err}
+use Rattle.std.specs.Prelude.{◌≡◌, ℕ, List, Option, None, Some, Result, Ok, Err}
 use Rattle.vl_engine_laws.specs.Represents.{file_of}
 use Rattle.vl_steps.specs.declared.done.Done.{Done}
 use Rattle.vl_steps.specs.declared.done.Done.TheVariants as done
@@ -13,6 +13,7 @@ use Rattle.vl_engine_model.specs.Rulings.Begin.{BeginAnswer, Begun, TooMany}
 use Rattle.vl_engine_model.specs.Rulings.Commit.{At, CommitAnswer, Conflict, Exhausted, Full, Halted, Nothing, Transaction}
 use Rattle.vl_engine_model.specs.Rulings.Commit.{commit_frame, commit_ruling, committed}
 use Rattle.vl_engine_model.specs.declared.layout.Layout.{Layout}
+use Rattle.vl_memtable.specs.Lengths.{lengths_with}
 use Rattle.vl_model.specs.Formats.{log_format}
 use Rattle.vl_model.specs.History.{History}
 use Rattle.vl_model.specs.declared.counter.Counter.TheVariants as counters
@@ -69,6 +70,13 @@ CommitFailed (Err (fails.Conflict key number)) = ⊥
 CommitFailed (Err (fails.Full txn length frame)) = ⊥
 CommitFailed (Err (fails.NoMemory txn)) = ⊥
 CommitFailed (Err (fails.Disk name)) = Unit {0}
+
+-- The writes of an accepted commit are one run more in memory, which joins as many older ones as it must, and no more. Each other
+-- answer leaves the runs as they were.
+abbrev pub CommitsRun : {H R : Type 0} → (writes : ℕ) → (old new : List ℕ) → Result Done (CommitFail H R) → Type 0
+CommitsRun writes old new (Ok (done.At number)) = new ≡ lengths_with writes old
+CommitsRun writes old new (Ok done.Nothing) = new ≡ old
+CommitsRun writes old new (Err why) = new ≡ old
 
 -- nothing was written: all answers but an accepted commit's and a fault's
 abbrev pub LeavesDisk : {H R : Type 0} → Result Done (CommitFail H R) → Type 0

@@ -33,6 +33,7 @@ use Rattle.vl_engine_model.specs.Rulings.Relocate.{MoveAnswer, Moves, moves_at, 
 use Rattle.vl_engine_model.specs.Ruling.{Ruling}
 use Rattle.vl_engine_model.specs.Sources.{sources}
 use Rattle.vl_engine_model.specs.declared.layout.Layout.{Layout}
+use Rattle.vl_memtable.specs.Lengths.{lengths_with}
 use Rattle.vl_model.specs.Conflicts.{Named}
 use Rattle.vl_model.specs.Cursors.{HasRisen}
 use Rattle.vl_model.specs.Entries.{in_order}
@@ -366,6 +367,17 @@ pub record NotesKeys (count number : ℕ) (old new : Option OpenMerge) : Type 0 
   pub keys : List (List ℕ)
   pub count_is : length keys ≡ count
   pub noted : NotesMoves old new (map (λ (key : List ℕ). (key, number)) keys)
+
+-- with so many entries more as one run, if there are any
+abbrev pub lengths_after : ℕ → List ℕ → List ℕ
+lengths_after zero old = old
+lengths_after (suc n) old = lengths_with (suc n) old
+
+-- The records that were moved are one run more in memory, which joins as many older ones as it must, and no more. Where none was
+-- moved the runs are as they were.
+abbrev pub MovesRun : {E : Type 0} → (old new : List ℕ) → Result ℕ E → Type 0
+MovesRun old new (Ok count) = new ≡ lengths_after count old
+MovesRun old new (Err why) = new ≡ old
 
 -- where something was moved its keys are noted for the open merge, and else what is kept of it stays
 abbrev pub MoveNotes : (number : ℕ) → (old new : Option OpenMerge) → Result ℕ MoveFail → Type 0

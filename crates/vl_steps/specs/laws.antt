@@ -37,6 +37,7 @@ pub mod RelocatingStaged
 pub mod RelocatingTotals
 pub mod RelocatingWritten
 pub mod Rotated
+pub mod RunLengths
 pub mod RotateSteps
 pub mod Ruled
 pub mod Stepped

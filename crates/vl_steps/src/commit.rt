@@ -9,6 +9,7 @@ ghost use Rattle.vl_engine_laws.specs.Lent.{LeavesTables};
 ghost use Rattle.vl_steps.specs.Staging.{IsStagedCommit, LeadTo, commit_entries, write_entry};
 ghost use Rattle.vl_front.specs.Decisions.{MayWrite};
 ghost use Rattle.vl_front.specs.Front.{IsSame};
+ghost use Rattle.vl_memtable.specs.Lengths.{lengths_with};
 ghost use Rattle.vl_model.specs.Keys.{key_cmp};
 
 use std::alloc::{AllocError, Global};
@@ -40,6 +41,8 @@ pub fn stage_commit<D: Disk>(
     requires may { MayWrite core.old.front (entries writes.now) }
     requires known { are_known core.old.front.oracle.last core.old.version.active.entries ≡ true }
     ensures staged { IfOk result (IsStagedCommit core.old.front core.old.version.active.entries writes.now) }
+    ensures lengths { IfOk result (λ staged. staged.active.lengths
+        ≡ lengths_with (length (entries writes.now)) core.old.version.active.lengths) }
     ensures keys { IfOk result (λ staged. vec_len staged.keys ≤ core.new.front.recent.room) }
     ensures room { IfOk result (λ staged.
         CanAppend (length staged.frame.frame.items) (D.spare disk.new (names.Log core.old.front.log.number))) }

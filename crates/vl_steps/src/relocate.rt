@@ -11,6 +11,7 @@ ghost use Rattle.vl_engine_laws.specs.Lent.{LeavesTables};
 ghost use Rattle.vl_steps.specs.Relocating.{Finds, HasRoomBehind, IsNotes, IsStagedMove};
 ghost use Rattle.vl_steps.specs.Relocating.{MayMove, NotesMoves, may_add, move_entries_of, moved_entry};
 ghost use Rattle.vl_engine_laws.specs.MoveFacts.{move_length};
+ghost use Rattle.vl_memtable.specs.Lengths.{lengths_with};
 ghost use Rattle.vl_model.specs.Entries as order;
 ghost use Rattle.vl_table.specs.CursorParts.{MayFailOn, is_disk_fault};
 ghost use Rattle.vl_version.specs.Bases.{Fits};
@@ -115,6 +116,8 @@ pub fn stage_move<D: Disk>(
 ) -> Result<StagedMove, NoMemory>
     requires { MayMove core.now moved.now }
     ensures staged { IfOk result (IsStagedMove core.now moved.now number merging.now) }
+    ensures lengths { IfOk result (λ staged. staged.active.lengths
+        ≡ lengths_with (length moved.now) core.now.version.active.lengths) }
     ensures room { IfOk result (λ staged.
         CanAppend (length staged.frame.frame.items) (D.spare disk.new (names.Log core.now.front.log.number))) }
     ensures no_change { ChangesNothing D.Watched disk.old disk.new ⊥ }

@@ -7,6 +7,7 @@ ghost use Rattle.vl_version.specs.LiesOver.{IsInMemory};
 ghost use Rattle.vl_engine_laws.specs.Represents.{Fronts, Represents, StandsFor};
 ghost use Rattle.vl_reads.specs.Sees.{IsNew, Sees, SeesAlone};
 ghost use Rattle.vl_engine_laws.specs.MayStep.{Fits};
+ghost use Rattle.vl_front.specs.Front.{IsPruned};
 ghost use Rattle.vl_engine_model.specs.AtAnswer.{beginning_of};
 ghost use Rattle.vl_engine_model.specs.Decides.{Decides, as_before, no_effects};
 ghost use Rattle.vl_engine_model.specs.Rulings.Begin.{begin_ruling};
@@ -79,6 +80,8 @@ impl<D: Disk> Engine<D> {
         ensures collecting { self.new.collecting ≡ self.old.collecting }
         ensures pins { PinsAs self.old.core.back.epoch self.old.removing.pins self.new.removing.pins result }
         ensures stock { self.new.removing.stock ≡ self.old.removing.stock }
+        // If it named no key of a commit at or below the floor, it still doesn't.
+        ensures pruned { IsPruned self.old.core.front → IsPruned self.new.core.front }
         ensures logs { self.new.core.version.behind.logs ≡ self.old.core.version.behind.logs }
     {
         let view = self.view()?;
@@ -122,6 +125,8 @@ impl<D: Disk> Engine<D> {
         ensures collecting { self.new.collecting ≡ self.old.collecting }
         ensures pins { PinsAs self.old.core.back.epoch self.old.removing.pins self.new.removing.pins result }
         ensures stock { self.new.removing.stock ≡ self.old.removing.stock }
+        // If it named no key of a commit at or below the floor, it still doesn't.
+        ensures pruned { IsPruned self.old.core.front → IsPruned self.new.core.front }
         ensures logs { self.new.core.version.behind.logs ≡ self.old.core.version.behind.logs }
     {
         let Ok(reader) = self.looks() else {

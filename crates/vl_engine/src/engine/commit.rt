@@ -1,11 +1,12 @@
-ghost use Rattle.std.specs.Prelude.{◌≡◌, ◌≤◌, ℕ, List, IfOk, IsTrue, None, Ok, OnOk, Some};
+ghost use Rattle.std.specs.Prelude.{◌≡◌, ◌≤◌, ℕ, List, length, IfOk, IsTrue, None, Ok, OnOk, Some};
 ghost use Rattle.std.specs.FinMap.{entries};
 ghost use Rattle.vl_disk.specs.DiskState.{DiskState};
 ghost use Rattle.vl_disk.specs.Calls.{ChangesNothing};
 ghost use Rattle.vl_disk.specs.Faults.{HasCause};
 ghost use Rattle.vl_disk.specs.declared.name.Name.{Name};
 ghost use Rattle.vl_disk.specs.declared.name.Name.TheVariants as names;
-ghost use Rattle.vl_steps.specs.Answers.{CommitFailed, IsWritable, LeavesDisk, commit_effects, commit_outcome, handed_back};
+ghost use Rattle.vl_steps.specs.Answers.{CommitFailed, CommitsRun, IsWritable, LeavesDisk};
+ghost use Rattle.vl_steps.specs.Answers.{commit_effects, commit_outcome, handed_back};
 ghost use Rattle.vl_engine_laws.specs.Carries.{Carries, SameFiles, StaysUntold};
 ghost use Rattle.vl_engine_laws.specs.Represents.{Fronts, IsLive, Represents, StandsFor};
 ghost use Rattle.vl_reads.specs.Sees.{Sees, asked};
@@ -14,6 +15,7 @@ ghost use Rattle.vl_steps.specs.Steps.{WritesAs};
 ghost use Rattle.vl_engine_laws.specs.Writing.{StopsWriting};
 ghost use Rattle.vl_conflict.specs.Recent.{Remembers};
 ghost use Rattle.vl_front.specs.Decisions.{MayWrite, decision_of};
+ghost use Rattle.vl_front.specs.Front.{IsPruned};
 ghost use Rattle.vl_front.specs.declared.decision.Decision.TheVariants.{Write};
 ghost use Rattle.vl_steps.specs.declared.done.Done.TheVariants as done;
 ghost use Rattle.vl_steps.specs.declared.fails.CommitFail.TheVariants as fails;
@@ -116,6 +118,10 @@ impl<D: Disk> Engine<D> {
         // One that has ended pins nothing.
         ensures removing { UnpinsAs txn.ticket self.old.removing self.new.removing result }
         ensures logs { self.new.core.version.behind.logs ≡ self.old.core.version.behind.logs }
+        // Where the transaction has ended no key of a commit at or below the floor is named any more.
+        ensures pruned { handed_back result ≡ None → IsPruned self.new.core.front }
+        ensures runs { CommitsRun (length (entries txn.writes)) self.old.core.version.active.lengths
+            self.new.core.version.active.lengths result }
     {
         let Ok(decision) = self.decided(&txn) else {
             return Err(CommitFail::NoMemory(txn));
@@ -169,6 +175,9 @@ impl<D: Disk> Engine<D> {
         ensures removing { UnpinsAs txn.ticket self.old.removing self.new.removing result }
         ensures logs { self.new.core.version.behind.logs ≡ self.old.core.version.behind.logs }
         ensures untouched { LeavesDisk result → ChangesNothing D.Watched self.old.disk self.new.disk ⊥ }
+        ensures pruned { handed_back result ≡ None → IsPruned self.new.core.front }
+        ensures runs { CommitsRun (length (entries txn.writes)) self.old.core.version.active.lengths
+            self.new.core.version.active.lengths result }
         ensures as_written { WritesAs D.Watched self.old.disk self.new.disk self.old.core self.new.core txn.ticket txn.writes result }
     {
         let ticket = txn.ticket();

@@ -1,6 +1,7 @@
 ghost use Rattle.std.specs.Prelude.{◌≡◌};
 ghost use Rattle.vl_engine_laws.specs.Represents.{Fronts, Represents, StandsFor};
 ghost use Rattle.vl_engine_laws.specs.MayStep.{Fits};
+ghost use Rattle.vl_front.specs.Front.{IsPruned};
 ghost use Rattle.vl_engine_model.specs.Ruling.{ended};
 ghost use Rattle.vl_engine_model.specs.declared.layout.Layout.{Layout};
 ghost use Rattle.vl_model.specs.History.{History, last_number};
@@ -30,6 +31,9 @@ impl<D: Disk> Engine<D> {
         ensures collecting { self.new.collecting ≡ self.old.collecting }
         ensures stock { self.new.removing.stock ≡ self.old.removing.stock }
         ensures removing { self.new.removing ≡ unpinned txn.ticket self.old.removing }
+        ensures version { self.new.core.version ≡ self.old.core.version }
+        // No key of a commit at or below the floor is named any more.
+        ensures pruned { IsPruned self.new.core.front }
         ensures logs { self.new.core.version.behind.logs ≡ self.old.core.version.behind.logs }
     {
         self.end(txn.ticket());
@@ -52,6 +56,9 @@ impl<D: Disk> Engine<D> {
         ensures collecting { self.new.collecting ≡ self.old.collecting }
         ensures stock { self.new.removing.stock ≡ self.old.removing.stock }
         ensures removing { self.new.removing ≡ unpinned view.ticket self.old.removing }
+        ensures version { self.new.core.version ≡ self.old.core.version }
+        // No key of a commit at or below the floor is named any more.
+        ensures pruned { IsPruned self.new.core.front }
         ensures logs { self.new.core.version.behind.logs ≡ self.old.core.version.behind.logs }
     {
         self.end(view.ticket());
@@ -74,6 +81,9 @@ impl<D: Disk> Engine<D> {
         ensures collecting { self.new.collecting ≡ self.old.collecting }
         ensures stock { self.new.removing.stock ≡ self.old.removing.stock }
         ensures removing { self.new.removing ≡ unpinned ticket self.old.removing }
+        ensures version { self.new.core.version ≡ self.old.core.version }
+        // No key of a commit at or below the floor is named any more.
+        ensures pruned { IsPruned self.new.core.front }
         ensures logs { self.new.core.version.behind.logs ≡ self.old.core.version.behind.logs }
     {
         self.core.front.end(ticket);

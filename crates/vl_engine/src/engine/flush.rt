@@ -23,7 +23,7 @@ ghost use Rattle.vl_model.specs.History.{History};
 ghost use Rattle.vl_engine_laws.specs.Lent.{Opens};
 ghost use Rattle.vl_space.specs.Removing.{Removes};
 ghost use Rattle.vl_engine_laws.specs.Lent.{lent_in};
-ghost use Rattle.vl_engine.specs.Space.{FlushesStock};
+ghost use Rattle.vl_engine.specs.Space.{FlushesStock, RetiresFlushed};
 
 use crate::{Engine, StepFail};
 use std::alloc::{AllocError, Global};
@@ -122,6 +122,10 @@ impl<D: Disk> Engine<D> {
             → Decides (λ _ l. Removes self.new.core self.new.removing l) h l (flush_ruling l h) (as_before l l)
             (step_outcome result) (flush_effects result) }
         ensures pins { self.new.removing.pins ≡ self.old.removing.pins }
+
+        // Whatever is told: the table is in use then, and each log below head into which no table leads was retired.
+        ensures retires { RetiresFlushed self.old.core self.new.core self.old.removing.stock self.new.removing.stock
+            self.new.collecting.tally (length (lent_in self.old.merging)) result }
     {
         if let Some(name) = self.core.front.halted {
             return Err(StepFail::Halted { name });

@@ -21,6 +21,8 @@ ghost use Rattle.vl_engine_model.specs.Decides.{Decides, as_before};
 ghost use Rattle.vl_engine_model.specs.Rulings.Fresh.{fresh_ruling};
 ghost use Rattle.vl_engine_model.specs.declared.layout.Layout.{Layout};
 ghost use Rattle.vl_model.specs.History.{History};
+ghost use Rattle.vl_model.specs.declared.counter.Counter.TheVariants as counters;
+ghost use Rattle.vl_model.specs.declared.counter.Counter.{Counter};
 ghost use Rattle.vl_space.specs.Removing.{Removes};
 
 use crate::{Engine, StepFail};
@@ -114,6 +116,7 @@ impl<D: Disk> Engine<D> {
         // In memory just the next table's number changes beside the open merge, unless a fault halts. A halted engine does nothing.
         ensures core { DrawsCore self.old.core self.new.core result }
         ensures halted { (name : Name) → self.old.core.front.halted ≡ Some name → result ≡ Err (fails.Halted name) }
+        ensures counted { (counter : Counter) → result ≡ Err (fails.Exhausted counter) → counter ≡ counters.Table }
     {
         if let Some(name) = self.core.front.halted {
             return Err(StepFail::Halted { name });

@@ -1,14 +1,16 @@
-ghost use Rattle.std.specs.Prelude.{◌≡◌, ◌<◌, ◌≤◌, ℕ, Err, None, Some, IfOk, IsSome, OnOk, length, map};
+ghost use Rattle.std.specs.Prelude.{◌≡◌, ◌<◌, ◌≤◌, ℕ, Err, List, None, Some, IfOk, IsSome, OnOk, length, map};
 ghost use Rattle.std.specs.List.{filter};
 ghost use Rattle.std.specs.Option.{ForSome};
 ghost use Rattle.vl_compact.specs.Progress.{made_of};
+ghost use Rattle.vl_compact.specs.Racing.{IsMoved};
 ghost use Rattle.vl_disk.specs.Calls.{ChangesNothing};
 ghost use Rattle.vl_disk.specs.DiskState.{DiskState};
 ghost use Rattle.vl_disk.specs.Faults.{HasCause, after_calls};
 ghost use Rattle.vl_disk.specs.declared.name.Name.{Name};
 ghost use Rattle.vl_engine_laws.specs.Carries.{Carries, StaysUntold};
 ghost use Rattle.vl_space.specs.Collecting.{Collects, LeadsFrom, idle_in, points_in, points_made};
-ghost use Rattle.vl_engine.specs.Space.{InstallsFor};
+ghost use Rattle.vl_engine.specs.Refusals.{moved_in};
+ghost use Rattle.vl_engine.specs.Space.{InstallsFor, RetiresInstalled};
 ghost use Rattle.vl_steps.specs.Installing.{HandsBack, InstallFailed, InstallLeavesDisk, InstallsAs, InstallsCore};
 ghost use Rattle.vl_steps.specs.Installing.{InstallsUnraced, IsHandedIn, IsInstallWritten, KeepsAllBut, MayInstall};
 ghost use Rattle.vl_steps.specs.Installing.{StopsInstall, WritesInstall, install_otherwise};
@@ -151,6 +153,15 @@ impl<D: Disk> Engine<D> {
         ensures idle { (name : Name) → self.old.core.front.halted ≡ Some name → self.new.collecting ≡ self.old.collecting }
         ensures unpinned { (name : Name) → self.old.core.front.halted ≡ Some name
             → self.new.removing.pins ≡ record self.old.removing.pins { merge = None } }
+
+        // Whatever is told: it is raced only by a key that was moved since the merge began and of which it dropped a deletion.
+        ensures raced { (key : List ℕ) (epoch : ℕ) → result ≡ Err (fails.Raced key epoch)
+            → IsMoved (moved_in self.old.merging) job.needless.items (key, epoch) }
+
+        // Whatever is told: the tables are in use then, and the inputs, and each log below head into which no table leads, were
+        // retired. Where they weren't put in, the merge's files wait, unless it was handed back.
+        ensures retires { RetiresInstalled job self.old.core self.new.core self.old.removing self.new.removing
+            self.new.collecting.tally (length (lent_in self.old.merging)) result }
     {
         if let Some(name) = self.core.front.halted {
             self.merging = None;
@@ -176,6 +187,7 @@ impl<D: Disk> Engine<D> {
     ) -> Result<Option<(Key, u64)>, AllocError>
         ensures raced { IfOk result (λ named. ForSome self.now.merging (λ merge. (j : laid_job.Job)
             → HasAllMerge D.Writer.Writer D.Held.bytes job.now j → named ≡ race j merge.moved.items)) }
+        ensures cause { IfOk result (λ named. ForSome named (IsMoved (moved_in self.now.merging) job.now.needless.items)) }
     {
         let Some(merge) = &self.merging else {
             return Ok(None);

@@ -6,6 +6,11 @@ ghost use Rattle.vl_engine_laws.specs.Lent.{StandsOpen};
 ghost use Rattle.vl_space.specs.Removing.{Removes};
 ghost use Rattle.vl_engine_laws.specs.Represents.{Represents};
 ghost use Rattle.vl_engine_laws.specs.MayStep.{Fits};
+ghost use Rattle.vl_disk.specs.declared.name.Name.{Name};
+ghost use Rattle.std.specs.Option.{ForSome};
+ghost use Rattle.vl_disk.specs.Performs.{GoesOnTelling};
+ghost use Rattle.vl_engine.specs.Merged.{MergesAs, PutsIn};
+ghost use Rattle.vl_engine.specs.Refusals.{CarriesOutAs, KeepsAllBelow, LeavesStore, LendsFrom, moment, of_install};
 ghost use Rattle.vl_engine.specs.UnderWay.{GivesUp, IfHandedBack, IsUnderWay};
 ghost use Rattle.vl_engine.specs.Whole.{MakesRemoving, MakesTables, StaysCollecting, StaysFor, StaysRemoving, kept_of};
 ghost use Rattle.vl_engine_model.specs.Rulings.Plan.{plan_ruling};
@@ -48,6 +53,21 @@ impl<D: Disk> Engine<D> {
         ensures counts { (h : History) (l : Layout) → Represents D.Held.bytes self.old.core (D.told self.old.disk) h l
             → StandsOpen D.Held.bytes self.old.core self.old.merging h l → Fits (D.told self.old.disk) self.old.core h l
             → IfOk result (λ kept. kept ≡ kept_of (plan_ruling l h).answer) }
+
+        // Where it was done, its tables took the place of its inputs; and none was due where it did nothing.
+        ensures put_in { (h : History) (l : Layout) → Represents D.Held.bytes self.old.core (D.told self.old.disk) h l
+            → StandsOpen D.Held.bytes self.old.core self.old.merging h l → Fits (D.told self.old.disk) self.old.core h l
+            → OnOk result (ForSome (plan_ruling l h).answer (PutsIn D.Held.bytes (D.told self.new.disk) self.new.core h l)) }
+
+        // Whatever is told: what it answers has its cause, and what it leaves in memory is said of each answer. Nothing is moved
+        // while it is done, so it is never raced.
+        ensures as_merged { MergesAs D.Watched D.Writer.Writer D.Held.bytes (λ r. D.Reader.faults r)
+            (moment self.old.core self.old.merging self.old.disk) (moment self.new.core self.new.merging self.new.disk) result }
+        // A halted engine does nothing.
+        ensures untouched { (name : Name) → self.old.core.front.halted ≡ Some name → LeavesStore D.Watched
+            (moment self.old.core self.old.merging self.old.disk) (moment self.new.core self.new.merging self.new.disk) }
+        // No file but tables with the next numbers comes or goes.
+        ensures files { KeepsAllBelow self.old.core.back.state.next_table (D.told self.old.disk) (D.told self.new.disk) }
 
         // Which pass is open stays.
         ensures passing { self.new.collecting.passing ≡ self.old.collecting.passing }
@@ -101,6 +121,17 @@ impl<D: Disk> Engine<D> {
             → Removes self.old.core self.old.removing l
             → MakesRemoving D.Watched D.Writer.Writer D.Held.bytes self.old.disk self.new.disk self.new.core self.new.merging
             self.new.removing job.new h l o.job result }
+
+        // Whatever is told: what it answers has its cause, and what it leaves in memory is said of each answer.
+        ensures as_made { CarriesOutAs D.Writer.Writer D.Held.bytes (λ r. D.Reader.faults r) D.Watched job.old job.new.after
+            (moment self.old.core self.old.merging self.old.disk) (moment self.new.core self.new.merging self.new.disk) result }
+        // A halted engine does nothing.
+        ensures idle { (name : Name) → self.old.core.front.halted ≡ Some name → LeavesStore D.Watched
+            (moment self.old.core self.old.merging self.old.disk) (moment self.new.core self.new.merging self.new.disk) }
+        // No file but tables with the next numbers comes or goes, and these are lent to the merge.
+        ensures files { KeepsAllBelow self.old.core.back.state.next_table (D.told self.old.disk) (D.told self.new.disk) }
+        ensures tells { GoesOnTelling (D.told self.old.disk) (D.told self.new.disk) }
+        ensures lends { LendsFrom self.old.core.back.state.next_table self.old.merging self.new.merging }
     {
         let mut reader = self.reader()?;
         'making: for _ in 0..MAX_FILE_NUMBER {
@@ -125,6 +156,7 @@ impl<D: Disk> Engine<D> {
         ensures collecting { self.new.collecting ≡ self.old.collecting }
         ensures core { self.new.core ≡ self.old.core }
         ensures disk { self.new.disk ≡ self.old.disk }
+        ensures refusal { result ≡ of_install fail }
     {
         match fail {
             InstallFail::Halted { name } => MergeFail::Halted { name },

@@ -1,4 +1,4 @@
-ghost use Rattle.std.specs.Prelude.{◌≡◌, ◌≤◌, ◌+◌, List, [], length, None, Some, IfErr, IfOk, IsErr, vec_capacity};
+ghost use Rattle.std.specs.Prelude.{◌≡◌, ◌≤◌, ◌+◌, All, List, [], length, None, Some, IfErr, IfOk, IsErr, vec_capacity};
 ghost use Rattle.vl_disk.specs.Calls.{ChangesNothing};
 ghost use Rattle.vl_disk.specs.Crash.{Image};
 ghost use Rattle.vl_disk.specs.DiskState.{DiskState};
@@ -25,7 +25,8 @@ ghost use Rattle.vl_recover.specs.crash.Starts.{MayOpen};
 ghost use Rattle.vl_recover.specs.opening.Answers.{AreStrayNames, Finds, IsNotOpened, calls_to_open};
 ghost use Rattle.vl_recover.specs.opening.Intact.{IsIntact, LeavesIntact};
 ghost use Rattle.vl_recover.specs.opening.Opening.{NamesNoTable};
-ghost use Rattle.vl_recover.specs.opening.Results.{recovery_by};
+ghost use Rattle.vl_front.specs.Front.{IsPruned};
+ghost use Rattle.vl_recover.specs.opening.Results.{IsOneRun, recovery_by};
 ghost use Rattle.vl_recover.specs.repairing.Steps.{MakesSome};
 ghost use Rattle.vl_space.specs.Removing.{IsNothingRemoved, Removes};
 
@@ -70,6 +71,11 @@ impl<D: Disk> Engine<D> {
         ensures back { (state : DiskState) (read : Image) (found : Finds read) → D.told disk ≡ Some state → IsRead read state
             → IfOk result (λ engine. IsBackAtStart found engine.core.back) }
 
+        // In memory each log with frames is one run, and behind them nothing yet. Of no commit a key is named.
+        ensures runs { IfOk result (λ engine. All IsOneRun engine.core.version.behind.frozen.items) }
+        ensures active { IfOk result (λ engine. engine.core.version.active ≡ record { entries = []; lengths = [] }) }
+        ensures pruned { IfOk result (λ engine. IsPruned engine.core.front) }
+
         // No merge is open, and no pass. How much is live isn't known yet, but which logs there are.
         ensures merging { IfOk result (λ engine. engine.merging ≡ None) }
         ensures collecting { IfOk result (λ engine. engine.collecting ≡ nothing_collected) }
@@ -110,7 +116,9 @@ impl<D: Disk> Engine<D> {
         // A fault is counted, by the disk or by the reader that is handed back, and named by the file at which it came.
         ensures cause { HasCause (D.faults disk) (D.faults (disk_behind result))
             (IsDiskFault (reader_faults D.Reader.faults result) (why_of result)) }
-        // Where no table is named that reader isn't asked. Where it counted one nothing is changed.
+        // What that reader failed at is answered as a fault: not as want of memory, and not as damage.
+        ensures read_fault { (reader_faults D.Reader.faults result ≡ 0 → ⊥) → IsFault (why_of result) }
+        // Where no table is named it isn't asked. Where it counted a fault nothing is changed.
         ensures unread { (state : DiskState) (read : Image) → D.told disk ≡ Some state → IsRead read state → NamesNoTable read
             → reader_faults D.Reader.faults result ≡ 0 }
         ensures unmoved { (reader_faults D.Reader.faults result ≡ 0 → ⊥) → IsAsBefore D.Watched disk (disk_behind result) }

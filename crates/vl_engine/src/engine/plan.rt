@@ -68,6 +68,8 @@ impl<D: Disk> Engine<D> {
         ensures job { (h : History) (l : Layout) → StandsOpen D.Held.bytes self.old.core self.old.merging h l
             → IfOk result (λ job. AreBoth (HasMerge D.Writer.Writer D.Held.bytes) job (plan_ruling l h).answer) }
         ensures new { IfOk result (λ job. ForSome job IsNew) }
+        // It is a merge of what the engine has.
+        ensures base { IfOk result (λ job. ForSome job (λ job. job.base.version ≡ self.old.core.version)) }
         // One begins only where none is open.
         ensures open { IfOk result (λ job. ForSome job (λ _. self.old.merging ≡ None)) }
         // It may be carried out, and abandoned.
@@ -179,6 +181,7 @@ impl<D: Disk> Engine<D> {
             → StandsFor D.Held.bytes self.old.core h l → IsChosen D.Held.bytes inputs h l ruling
             → IfOk result (λ job. AreBoth (HasMerge D.Writer.Writer D.Held.bytes) job ruling.answer) }
         ensures new { IfOk result (λ job. ForSome job IsNew) }
+        ensures base { IfOk result (λ job. ForSome job (λ job. job.base.version ≡ self.old.core.version)) }
         ensures under_way { IfOk result (λ job. ForSome job (IsUnderWay D.Watched D.Writer.Writer self.new.disk
             self.new.core.front.halted self.new.merging)) }
         ensures looks { (h : History) (l : Layout) → StandsFor D.Held.bytes self.old.core h l

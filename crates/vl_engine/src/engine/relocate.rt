@@ -10,7 +10,7 @@ ghost use Rattle.vl_disk.specs.declared.errors.DiskFail.TheVariants as why;
 ghost use Rattle.vl_disk.specs.declared.name.Name.{Name};
 ghost use Rattle.vl_disk.specs.declared.name.Name.TheVariants as names;
 ghost use Rattle.vl_engine_laws.specs.Lent.{StandsOpen};
-ghost use Rattle.vl_steps.specs.Relocating.{IsDamaged, IsMovable, IsOfPass, IsTableAmong, MayMove, MoveCounts, MoveLeavesDisk, MoveNotes};
+ghost use Rattle.vl_steps.specs.Relocating.{IsDamaged, IsMovable, IsOfPass, IsTableAmong, MayMove, MoveCounts, MoveLeavesDisk, MoveNotes, MovesRun};
 ghost use Rattle.vl_steps.specs.Relocating.{RelocatesAs, WritesMove, at, batch_back, move_effects, move_outcome, moved_version};
 ghost use Rattle.vl_steps.specs.declared.fails.MoveFail.TheVariants as fails;
 ghost use Rattle.vl_engine_model.specs.Decides.{Decides, as_before};
@@ -130,6 +130,7 @@ impl<D: Disk> Engine<D> {
         ensures steps { self.new.core.back ≡ record self.old.core.back
             { epoch = moved_version result self.old.core.back.epoch } }
         ensures logs { self.new.core.version.behind ≡ self.old.core.version.behind }
+        ensures runs { MovesRun self.old.core.version.active.lengths self.new.core.version.active.lengths result }
         ensures collecting { self.new.collecting ≡ self.old.collecting }
         ensures removing { self.new.removing ≡ self.old.removing }
 
@@ -153,6 +154,7 @@ impl<D: Disk> Engine<D> {
             (at self.new.disk self.new.core self.new.merging looks.new) segment batch result }
         ensures cause { MoveCounts self.old.core.front.log.number (D.faults self.old.disk) (D.faults self.new.disk)
             (D.Reader.faults looks.old.reader) (D.Reader.faults looks.new.reader) result }
+        ensures runs { MovesRun self.old.core.version.active.lengths self.new.core.version.active.lengths result }
         ensures collecting { self.new.collecting ≡ self.old.collecting }
         ensures removing { self.new.removing ≡ self.old.removing }
         ensures fits { bases.Fits D.Held.bytes self.old.core.version looks.old
@@ -206,6 +208,7 @@ impl<D: Disk> Engine<D> {
         ensures as_written { WritesMove D.Watched self.old.disk self.new.disk self.old.core self.new.core self.old.merging
             self.new.merging moved.now result }
         ensures cause { HasCause (D.faults self.old.disk) (D.faults self.new.disk) (IsErrOf result why.Failed) }
+        ensures runs { MovesRun self.old.core.version.active.lengths self.new.core.version.active.lengths result }
         ensures collecting { self.new.collecting ≡ self.old.collecting }
         ensures removing { self.new.removing ≡ self.old.removing }
     {

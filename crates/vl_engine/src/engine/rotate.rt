@@ -22,7 +22,7 @@ ghost use Rattle.vl_model.specs.History.{History};
 ghost use Rattle.vl_engine_laws.specs.Lent.{Opens};
 ghost use Rattle.vl_space.specs.Removing.{Removes};
 ghost use Rattle.vl_engine_laws.specs.Lent.{lent_in};
-ghost use Rattle.vl_engine.specs.Space.{SealsStock};
+ghost use Rattle.vl_engine.specs.Space.{RotatesStock, SealsStock};
 
 use crate::{Engine, StepFail};
 use vl_back::{Waiting, make_log};
@@ -106,6 +106,10 @@ impl<D: Disk> Engine<D> {
             → Decides (λ _ l. Removes self.new.core self.new.removing l) h l (rotate_ruling l h) (as_before l l)
             (step_outcome result) (rotate_effects result) }
         ensures pins { self.new.removing.pins ≡ self.old.removing.pins }
+
+        // Whatever is told: the log that was sealed is in use then, and no file was retired.
+        ensures retires { RotatesStock self.old.core self.old.removing.stock self.new.removing.stock
+            (length (lent_in self.old.merging)) result }
     {
         match refusal(&self.core) {
             Some(answer) => answer,

@@ -1,8 +1,9 @@
 use Rattle.std.proofs.Common.{◌≡◌, ◌+◌, ◌++◌, ℕ, List, ap, arith, length, sym, subst, ◌∙◌, ◌<◌}
 use Rattle.std.specs.FinMap.{entries}
-use Rattle.vl_steps.proofs.Staged.{is_commit, staged_entries, staged_new, staged_some}
+use Rattle.vl_steps.proofs.Staged.{is_commit, staged_entries, staged_many, staged_new, staged_some}
 use Rattle.vl_engine_model.specs.Logs.{frame_entries}
 use Rattle.vl_memtable.specs.Contents.{IsNewTo}
+use Rattle.vl_memtable.specs.Lengths.{lengths_with}
 use Rattle.vl_model.specs.Entries.{in_order}
 use Rattle.vl_model.specs.Formats.{log_format}
 use Rattle.vl_model.specs.declared.change.Change.{Change}
@@ -71,3 +72,13 @@ returns-clause-staged g c =
           ∙ ap (λ (n : ℕ). frame_entries log_format front.log.number front.log.length (Committed n (entries writes))) number);
       keys = c.in_ok-keys.ensures.keys;
     }
+
+pub returns-clause-lengths : goal.returns-clause-lengths
+returns-clause-lengths g c =
+    let front = c.args.core.now.front in
+    let lead = c.deref.ensures.value ∙ c.in_ok-frame.ensures.staged.pointers
+    ∙ ap (λ (ws : List (List ℕ × Change)). pointers_from log_format front.log.number (front.log.length + 17) ws)
+    c.as_slice.ensures.entries in
+    c.in_ok-active.ensures.lengths ∙ ap (λ (n : ℕ). lengths_with n c.args.core.now.version.active.lengths)
+    (ap length c.in_ok-run.ensures
+    ∙ staged_many front.log (c.last-number.result + 1) (entries c.args.writes.now) c.deref.result.now lead)

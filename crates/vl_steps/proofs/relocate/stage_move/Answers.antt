@@ -1,7 +1,9 @@
-use Rattle.std.proofs.Common.{◌+◌, ◌++◌, ap, arith, length, refl, subst, sym, ◌∙◌, List}
+use Rattle.std.proofs.Common.{◌+◌, ◌++◌, ap, arith, length, refl, subst, sym, ◌∙◌, ℕ, List}
 use Rattle.vl_steps.proofs.RelocatingEntries.{staged_count, staged_entries, staged_pointers}
 use Rattle.vl_steps.specs.laws.RelocatingStaged.{staged_more, staged_new, staged_some}
+use Rattle.vl_steps.specs.laws.RunLengths.{moves_long}
 use Rattle.vl_memtable.specs.Contents.{IsNewTo}
+use Rattle.vl_memtable.specs.Lengths.{lengths_with}
 use Rattle.vl_model.specs.Entries.{in_order}
 use Rattle.vl_model.specs.declared.entry.Entry.{Entry}
 use Rattle.vl_steps.proofs.relocate.stage_move.Goals as goal
@@ -50,3 +52,12 @@ returns-clause-staged g c =
       notes = c.in_ok-notes.ensures;
       count = refl;
     }
+
+pub returns-clause-lengths : goal.returns-clause-lengths
+returns-clause-lengths g c =
+    let core = c.args.core.now in
+    let moved = c.args.moved.now in
+    let pointers = c.deref.result.now in
+    let same = staged_pointers core.front moved pointers (c.deref.ensures.value ∙ c.in_ok-frame.ensures.staged.pointers) in
+    c.in_ok-active.ensures.lengths ∙ ap (λ (n : ℕ). lengths_with n core.version.active.lengths)
+    (ap length c.in_ok-run.ensures ∙ moves_long moved pointers c.requires.relocation.once same)

@@ -1,6 +1,12 @@
-use Rattle.std.proofs.Common.{ap, refl, ◌∙◌}
+use Rattle.std.proofs.Common.{ap, arith, refl, sym, ℕ, ◌+◌, ◌∙◌}
 use Rattle.vl_disk.specs.declared.name.Name.TheVariants.{Table}
 use Rattle.vl_engine_laws.specs.laws.Carrying.{IsWatched}
+use Rattle.vl_engine.proofs.Refusing.{all_drawn, below_none, below_one, below_then, draw_tells, drawn_above, draws_more, draws_none, fill_fails}
+use Rattle.vl_engine.proofs.Refusing.{fits_at, halted_draw, has_drawn, leaves_store, left_after, lends_more, lends_none, lends_same, memory_exit}
+use Rattle.vl_engine.proofs.Refusing.{none_lent, read_exit, read_fails, same_after, same_base, same_inputs, step_exit, taken_base, taken_inputs}
+use Rattle.vl_engine.proofs.Refusing.{tells_then}
+use Rattle.vl_disk.specs.laws.Performing.{changed_tells}
+use Rattle.vl_engine.specs.Refusals.{IsLastDrawn, moment}
 use Rattle.vl_engine.proofs.UnderWay.{handed_in, one_more, quiet_draw, still_way, unfilled_way, unlent_way}
 use Rattle.vl_engine.proofs.Whole.{drawn_runs, fails, fits_asked, fits_roomy, fits_taken, has_all, has_same, is_fresh}
 use Rattle.vl_engine.proofs.Whole.{made_more, made_more_with, starts, unbegun, unfilled, unfilled_with, unlent, unlent_with}
@@ -31,6 +37,13 @@ making-init g c =
       pins = refl;
       collecting = refl;
       logs = refl;
+      draws = draws_none g.D.Watched (moment c.args.self.now.core c.args.self.now.merging c.args.self.now.disk);
+      lends = lends_none c.args.self.now.core.back.state.next_table c.args.self.now.merging;
+      files = below_none c.args.self.now.core.back.state.next_table (g.D.Watched.told c.args.self.now.disk) _ refl;
+      tells = λ state is. (state, is);
+      base = refl;
+      inputs = refl;
+      looks = λ readers. readers c.in_ok-reader.reader.looks c.in_ok-reader.ensures.blocks;
     }
 
 -- all tables are made
@@ -103,6 +116,38 @@ making-preserved g c =
       pins = c.fresh.ensures.pins ∙ c.making.invariant.pins;
       collecting = c.fresh.ensures.collecting ∙ c.making.invariant.collecting;
       logs = c.fresh.ensures.logs ∙ c.making.invariant.logs;
+      draws = draws_more g.D.Watched (moment c.args.self.now.core c.args.self.now.merging c.args.self.now.disk)
+          (moment c.making.self.core c.making.self.merging c.making.self.disk)
+          (moment c.fresh.new.self.core c.fresh.new.self.merging c.fresh.new.self.disk) c.making.counter c.in_ok-file.file
+          c.making.invariant.draws c.in_ok-file.ensures.core c.in_ok-file.ensures.calls c.in_ok-file.ensures.cause
+          c.in_ok-file.ensures.halted;
+      lends = lends_more c.args.self.now.core.back.state.next_table c.in_ok-file.file.number c.args.self.now.merging
+          c.making.self.merging c.fresh.new.self.merging c.making.invariant.lends c.in_ok-file.ensures.merging
+          (drawn_above c.args.self.now.core c.making.self.core c.making.counter c.in_ok-file.file.number
+          c.making.invariant.draws.core c.in_ok-file.ensures.number);
+      files = below_then c.args.self.now.core.back.state.next_table (g.D.Watched.told c.args.self.now.disk)
+          (g.D.Watched.told c.making.self.disk) (g.D.Watched.told c.fresh.new.self.disk) c.making.invariant.files
+          c.making.invariant.tells
+          (below_one c.args.self.now.core.back.state.next_table c.making.self.core.back.state.next_table
+          (g.D.Watched.told c.making.self.disk) (g.D.Watched.told c.fresh.new.self.disk) c.in_ok-file.ensures.files
+          (drawn_above c.args.self.now.core c.making.self.core c.making.counter c.making.self.core.back.state.next_table
+          c.making.invariant.draws.core refl));
+      tells = tells_then (g.D.Watched.told c.args.self.now.disk) (g.D.Watched.told c.making.self.disk)
+          (g.D.Watched.told c.fresh.new.self.disk) c.making.invariant.tells
+          (changed_tells (lent_new (Table c.in_ok-file.file.number)) (g.D.Watched.told c.making.self.disk)
+          (g.D.Watched.told c.fresh.new.self.disk) c.in_ok-file.ensures.written);
+      base = taken_base g.D.Writer.Writer c.in_ok-file.file c.fresh.new.job c.fill.new.self c.in_ok-fill.ensures.takes
+          ∙ same_base c.making.job c.ready.new.self c.fresh.new.job c.ready.ensures.kept c.fresh.ensures.job ∙ c.making.invariant.base;
+      inputs = taken_inputs g.D.Writer.Writer c.in_ok-file.file c.fresh.new.job c.fill.new.self c.in_ok-fill.ensures.takes
+          ∙ same_inputs c.making.job c.ready.new.self c.fresh.new.job c.ready.ensures.kept c.fresh.ensures.job ∙ c.making.invariant.inputs;
+      looks = λ readers.
+          fits_at g.D.Held.HeldFile.bytes c.fresh.new.job.base c.args.job.now.base c.fill.new.reader.looks
+          (same_base c.making.job c.ready.new.self c.fresh.new.job c.ready.ensures.kept c.fresh.ensures.job ∙ c.making.invariant.base)
+          (c.fill.ensures.fits (fits_at g.D.Held.HeldFile.bytes c.args.job.now.base c.fresh.new.job.base c.ready.new.reader.looks
+          (sym (same_base c.making.job c.ready.new.self c.fresh.new.job c.ready.ensures.kept c.fresh.ensures.job ∙ c.making.invariant.base))
+          (fits_at g.D.Held.HeldFile.bytes c.making.job.base c.args.job.now.base c.ready.new.reader.looks c.making.invariant.base
+          (c.ready.ensures.fits (fits_at g.D.Held.HeldFile.bytes c.args.job.now.base c.making.job.base c.making.reader.looks
+          (sym c.making.invariant.base) (c.making.invariant.looks readers))))));
     }
 
 -- it ends before that
@@ -280,3 +325,194 @@ returns-clause-removes g c h x o is stands fits is_open has looks removes =
           c.making.self.core c.making.self.merging c.making.job c.making.reader m c.making.job _ refl;
       removes = kept;
     }
+
+-- what it answers has its cause
+
+pub returns-in_err-reader-clause-as_made : goal.returns-in_err-reader-clause-as_made
+returns-in_err-reader-clause-as_made g c =
+    let old = moment c.args.self.now.core c.args.self.now.merging c.args.self.now.disk in
+    memory_exit g.D.Writer.Writer g.D.Held.HeldFile.bytes (λ r. g.D.Reader.Reader.faults r) g.D.Watched c.args.job.now c.args.job.now.after old old
+    c.from_residual.result c.from_residual.ensures.1 (has_drawn g.D.Watched old old 0 (draws_none g.D.Watched old))
+
+pub returns-in_err-ready-clause-as_made : goal.returns-in_err-ready-clause-as_made
+returns-in_err-ready-clause-as_made g c =
+    let old = moment c.args.self.now.core c.args.self.now.merging c.args.self.now.disk in
+    let mid = moment c.making.self.core c.making.self.merging c.making.self.disk in
+    read_exit g.D.Writer.Writer g.D.Held.HeldFile.bytes (λ r. g.D.Reader.Reader.faults r) g.D.Watched c.args.job.now c.ready.new.self.after old mid
+    c.in_err-ready.field-0.0 c.from_residual-in_err-ready.result c.from_residual-in_err-ready.ensures.1
+    (has_drawn g.D.Watched old mid c.making.counter c.making.invariant.draws)
+    (read_fails g.D.Writer.Writer g.D.Held.HeldFile.bytes (λ r. g.D.Reader.Reader.faults r) g.D.Watched c.args.job.now c.ready.new.self.after old
+    (IsLastDrawn mid) c.making.job.base c.making.job.inputs c.making.job.after c.making.reader c.ready.new.reader
+    c.in_err-ready.field-0.0 c.making.invariant.base c.making.invariant.inputs
+    (sym (same_after c.making.job c.ready.new.self c.ready.ensures.kept)) c.making.invariant.looks c.in_err-ready.ensures.cause)
+
+pub returns-in_err-file-clause-as_made : goal.returns-in_err-file-clause-as_made
+returns-in_err-file-clause-as_made g c =
+    step_exit g.D.Writer.Writer g.D.Held.HeldFile.bytes (λ r. g.D.Reader.Reader.faults r) g.D.Watched c.args.job.now c.fresh.new.job.after
+    (moment c.args.self.now.core c.args.self.now.merging c.args.self.now.disk)
+    (moment c.making.self.core c.making.self.merging c.making.self.disk)
+    (moment c.fresh.new.self.core c.fresh.new.self.merging c.fresh.new.self.disk) c.making.counter c.making.invariant.draws
+    c.in_err-file.field-0.0 c.in_err-file.ensures.core c.in_err-file.ensures.halted c.in_err-file.ensures.counted
+    c.in_err-file.ensures.failed c.in_err-file.ensures.stopped c.in_err-file.ensures.cause c.in_err-file.ensures.untouched
+    c.from_residual-in_err-file.result c.from_residual-in_err-file.ensures.1
+
+pub returns-in_err-fill-clause-as_made : goal.returns-in_err-fill-clause-as_made
+returns-in_err-fill-clause-as_made g c =
+    let old = moment c.args.self.now.core c.args.self.now.merging c.args.self.now.disk in
+    let mid = moment c.making.self.core c.making.self.merging c.making.self.disk in
+    let new = moment c.fresh.new.self.core c.fresh.new.self.merging c.fresh.new.self.disk in
+    read_exit g.D.Writer.Writer g.D.Held.HeldFile.bytes (λ r. g.D.Reader.Reader.faults r) g.D.Watched c.args.job.now c.fill.new.self.after old new
+    c.in_err-fill.field-0.0 c.from_residual-in_err-fill.result c.from_residual-in_err-fill.ensures.1
+    (has_drawn g.D.Watched old new (c.making.counter + 1)
+    (draws_more g.D.Watched old mid new c.making.counter c.in_ok-file.file c.making.invariant.draws c.in_ok-file.ensures.core
+    c.in_ok-file.ensures.calls c.in_ok-file.ensures.cause c.in_ok-file.ensures.halted))
+    (fill_fails g.D.Writer.Writer g.D.Held.HeldFile.bytes (λ r. g.D.Reader.Reader.faults r) g.D.Watched c.args.job.now c.fill.new.self.after old
+    (IsLastDrawn new) c.fresh.new.job c.fill.new.self c.in_ok-file.file c.ready.new.reader c.fill.new.reader
+    c.in_err-fill.field-0.0
+    (same_base c.making.job c.ready.new.self c.fresh.new.job c.ready.ensures.kept c.fresh.ensures.job ∙ c.making.invariant.base)
+    (same_inputs c.making.job c.ready.new.self c.fresh.new.job c.ready.ensures.kept c.fresh.ensures.job ∙ c.making.invariant.inputs)
+    (sym (left_after g.D.Writer.Writer c.in_ok-file.file c.fresh.new.job c.fill.new.self c.in_err-fill.ensures.refused))
+    (λ readers.
+    fits_at g.D.Held.HeldFile.bytes c.making.job.base c.args.job.now.base c.ready.new.reader.looks c.making.invariant.base
+    (c.ready.ensures.fits (fits_at g.D.Held.HeldFile.bytes c.args.job.now.base c.making.job.base c.making.reader.looks
+    (sym c.making.invariant.base) (c.making.invariant.looks readers))))
+    (ap (λ (n : ℕ). n + 1) c.in_ok-file.ensures.number
+    ∙ sym (ap (λ (core : Core _). core.back.state.next_table) c.in_ok-file.ensures.core))
+    c.in_err-fill.ensures.cause)
+
+pub returns-then-not-branch-clause-as_made : goal.returns-then-not-branch-clause-as_made
+returns-then-not-branch-clause-as_made g c =
+    has_drawn g.D.Watched (moment c.args.self.now.core c.args.self.now.merging c.args.self.now.disk)
+    (moment c.making.self.core c.making.self.merging c.making.self.disk) c.making.counter c.making.invariant.draws
+
+pub returns-clause-as_made : goal.returns-clause-as_made
+returns-clause-as_made g c =
+    let old = moment c.args.self.now.core c.args.self.now.merging c.args.self.now.disk in
+    let mid = moment c.making.self.core c.making.self.merging c.making.self.disk in (
+      has_drawn g.D.Watched old mid c.making.counter c.making.invariant.draws,
+      all_drawn g.D.Watched old mid c.making.counter c.args.self.now.numbered.1 c.making.invariant.draws (omega arith),
+    )
+
+-- a halted engine did nothing
+
+pub returns-in_err-reader-clause-idle : goal.returns-in_err-reader-clause-idle
+returns-in_err-reader-clause-idle g c name is =
+    let old = moment c.args.self.now.core c.args.self.now.merging c.args.self.now.disk in
+    leaves_store g.D.Watched old old (refl, refl)
+
+pub returns-in_err-ready-clause-idle : goal.returns-in_err-ready-clause-idle
+returns-in_err-ready-clause-idle g c name is =
+    leaves_store g.D.Watched (moment c.args.self.now.core c.args.self.now.merging c.args.self.now.disk)
+    (moment c.making.self.core c.making.self.merging c.making.self.disk) (c.making.invariant.draws.idle name is)
+
+pub returns-in_err-file-clause-idle : goal.returns-in_err-file-clause-idle
+returns-in_err-file-clause-idle g c name is =
+    halted_draw g.D.Watched (moment c.args.self.now.core c.args.self.now.merging c.args.self.now.disk)
+    (moment c.making.self.core c.making.self.merging c.making.self.disk)
+    (moment c.fresh.new.self.core c.fresh.new.self.merging c.fresh.new.self.disk) c.in_err-file.field-0.0 name
+    (c.making.invariant.draws.idle name is)
+    (c.in_err-file.ensures.halted name (ap (λ (core : Core _). core.front.halted) c.making.invariant.draws.core ∙ is))
+    c.in_err-file.ensures.core c.in_err-file.ensures.untouched
+
+pub returns-in_err-fill-clause-idle : goal.returns-in_err-fill-clause-idle
+returns-in_err-fill-clause-idle g c name is =
+    none_lent _ _ (c.in_ok-file.ensures.halted name (ap (λ (core : Core _). core.front.halted) c.making.invariant.draws.core ∙ is))
+
+pub returns-then-not-branch-clause-idle : goal.returns-then-not-branch-clause-idle
+returns-then-not-branch-clause-idle g c name is =
+    leaves_store g.D.Watched (moment c.args.self.now.core c.args.self.now.merging c.args.self.now.disk)
+    (moment c.making.self.core c.making.self.merging c.making.self.disk) (c.making.invariant.draws.idle name is)
+
+pub returns-clause-idle : goal.returns-clause-idle
+returns-clause-idle g c name is =
+    leaves_store g.D.Watched (moment c.args.self.now.core c.args.self.now.merging c.args.self.now.disk)
+    (moment c.making.self.core c.making.self.merging c.making.self.disk) (c.making.invariant.draws.idle name is)
+
+-- which files come and go
+
+pub returns-in_err-reader-clause-files : goal.returns-in_err-reader-clause-files
+returns-in_err-reader-clause-files g c =
+    below_none c.args.self.now.core.back.state.next_table (g.D.Watched.told c.args.self.now.disk) _ refl
+
+pub returns-in_err-ready-clause-files : goal.returns-in_err-ready-clause-files
+returns-in_err-ready-clause-files g c = c.making.invariant.files
+
+pub returns-in_err-file-clause-files : goal.returns-in_err-file-clause-files
+returns-in_err-file-clause-files g c =
+    below_then c.args.self.now.core.back.state.next_table (g.D.Watched.told c.args.self.now.disk)
+    (g.D.Watched.told c.making.self.disk) (g.D.Watched.told c.fresh.new.self.disk) c.making.invariant.files
+    c.making.invariant.tells
+    (below_one c.args.self.now.core.back.state.next_table c.making.self.core.back.state.next_table
+    (g.D.Watched.told c.making.self.disk) (g.D.Watched.told c.fresh.new.self.disk) c.fresh.ensures.files
+    (drawn_above c.args.self.now.core c.making.self.core c.making.counter c.making.self.core.back.state.next_table
+    c.making.invariant.draws.core refl))
+
+pub returns-in_err-fill-clause-files : goal.returns-in_err-fill-clause-files
+returns-in_err-fill-clause-files g c =
+    below_then c.args.self.now.core.back.state.next_table (g.D.Watched.told c.args.self.now.disk)
+    (g.D.Watched.told c.making.self.disk) (g.D.Watched.told c.fresh.new.self.disk) c.making.invariant.files
+    c.making.invariant.tells
+    (below_one c.args.self.now.core.back.state.next_table c.making.self.core.back.state.next_table
+    (g.D.Watched.told c.making.self.disk) (g.D.Watched.told c.fresh.new.self.disk) c.fresh.ensures.files
+    (drawn_above c.args.self.now.core c.making.self.core c.making.counter c.making.self.core.back.state.next_table
+    c.making.invariant.draws.core refl))
+
+pub returns-then-not-branch-clause-files : goal.returns-then-not-branch-clause-files
+returns-then-not-branch-clause-files g c = c.making.invariant.files
+
+pub returns-clause-files : goal.returns-clause-files
+returns-clause-files g c = c.making.invariant.files
+
+-- what tells goes on telling
+
+pub returns-in_err-reader-clause-tells : goal.returns-in_err-reader-clause-tells
+returns-in_err-reader-clause-tells g c state is = (state, is)
+
+pub returns-in_err-ready-clause-tells : goal.returns-in_err-ready-clause-tells
+returns-in_err-ready-clause-tells g c = c.making.invariant.tells
+
+pub returns-in_err-file-clause-tells : goal.returns-in_err-file-clause-tells
+returns-in_err-file-clause-tells g c =
+    tells_then (g.D.Watched.told c.args.self.now.disk) (g.D.Watched.told c.making.self.disk)
+    (g.D.Watched.told c.fresh.new.self.disk) c.making.invariant.tells
+    (draw_tells g.D.Watched g.D.Writer.Writer c.making.self.core c.making.self.disk c.fresh.new.self.disk c.in_err-file.field-0.0
+    c.in_err-file.ensures.untouched c.in_err-file.ensures.meanwhile)
+
+pub returns-in_err-fill-clause-tells : goal.returns-in_err-fill-clause-tells
+returns-in_err-fill-clause-tells g c =
+    tells_then (g.D.Watched.told c.args.self.now.disk) (g.D.Watched.told c.making.self.disk)
+    (g.D.Watched.told c.fresh.new.self.disk) c.making.invariant.tells
+    (changed_tells (lent_new (Table c.in_ok-file.file.number)) (g.D.Watched.told c.making.self.disk)
+    (g.D.Watched.told c.fresh.new.self.disk) c.in_ok-file.ensures.written)
+
+pub returns-then-not-branch-clause-tells : goal.returns-then-not-branch-clause-tells
+returns-then-not-branch-clause-tells g c = c.making.invariant.tells
+
+pub returns-clause-tells : goal.returns-clause-tells
+returns-clause-tells g c = c.making.invariant.tells
+
+-- which files were lent
+
+pub returns-in_err-reader-clause-lends : goal.returns-in_err-reader-clause-lends
+returns-in_err-reader-clause-lends g c = lends_none c.args.self.now.core.back.state.next_table c.args.self.now.merging
+
+pub returns-in_err-ready-clause-lends : goal.returns-in_err-ready-clause-lends
+returns-in_err-ready-clause-lends g c = c.making.invariant.lends
+
+pub returns-in_err-file-clause-lends : goal.returns-in_err-file-clause-lends
+returns-in_err-file-clause-lends g c =
+    lends_same c.args.self.now.core.back.state.next_table c.args.self.now.merging c.making.self.merging c.fresh.new.self.merging
+    c.making.invariant.lends c.in_err-file.ensures.refused
+
+pub returns-in_err-fill-clause-lends : goal.returns-in_err-fill-clause-lends
+returns-in_err-fill-clause-lends g c =
+    lends_more c.args.self.now.core.back.state.next_table c.in_ok-file.file.number c.args.self.now.merging
+    c.making.self.merging c.fresh.new.self.merging c.making.invariant.lends c.in_ok-file.ensures.merging
+    (drawn_above c.args.self.now.core c.making.self.core c.making.counter c.in_ok-file.file.number
+    c.making.invariant.draws.core c.in_ok-file.ensures.number)
+
+pub returns-then-not-branch-clause-lends : goal.returns-then-not-branch-clause-lends
+returns-then-not-branch-clause-lends g c = c.making.invariant.lends
+
+pub returns-clause-lends : goal.returns-clause-lends
+returns-clause-lends g c = c.making.invariant.lends

@@ -5,6 +5,10 @@ use Rattle.vl_engine_laws.specs.Lent.{StandsOpen}
 use Rattle.vl_engine_laws.specs.Represents.{Represents}
 use Rattle.vl_engine_laws.specs.MayStep.{Fits}
 use Rattle.vl_space.specs.Removing.{Removes}
+use Rattle.vl_disk.specs.Performs.{GoesOnTelling}
+use Rattle.vl_engine.proofs.Refusing.{Draws}
+use Rattle.vl_engine.specs.Refusals.{KeepsAllBelow, LendsFrom, moment}
+use Rattle.vl_version.specs.Bases as bases
 use Rattle.vl_engine.specs.UnderWay.{IsUnderWay}
 use Rattle.vl_engine_model.specs.declared.job.OpenJob.{OpenJob}
 use Rattle.vl_engine_model.specs.declared.layout.Layout.{Layout}
@@ -31,4 +35,13 @@ invariant-making g l = record {
   pins : l.self.removing.pins ≡ l.fn.self.removing.pins;
   collecting : l.self.collecting ≡ l.fn.self.collecting;
   logs : l.self.core.version.behind.logs ≡ l.fn.self.core.version.behind.logs;
+  draws : Draws g.D.Watched (moment l.fn.self.core l.fn.self.merging l.fn.self.disk) (moment l.self.core l.self.merging l.self.disk)
+      l.counter;
+  lends : LendsFrom l.fn.self.core.back.state.next_table l.fn.self.merging l.self.merging;
+  files : KeepsAllBelow l.fn.self.core.back.state.next_table (g.D.Watched.told l.fn.self.disk) (g.D.Watched.told l.self.disk);
+  tells : GoesOnTelling (g.D.Watched.told l.fn.self.disk) (g.D.Watched.told l.self.disk);
+  base : l.job.base ≡ l.fn.job.base;
+  inputs : l.job.inputs ≡ l.fn.job.inputs;
+  looks : FitsReaders g.D.Held.HeldFile.bytes l.fn.job
+      → bases.Fits g.D.Held.HeldFile.bytes l.fn.job.base.version l.reader.looks;
 }

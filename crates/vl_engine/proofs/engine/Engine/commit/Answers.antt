@@ -1,4 +1,4 @@
-use Rattle.std.proofs.Common.{refl, sym, ◌∙◌}
+use Rattle.std.proofs.Common.{ap, refl, sym, ◌∙◌}
 use Rattle.std.specs.Prelude.{[]}
 use Rattle.vl_steps.specs.laws.Committing.{carries_unwritten, decides_leaving}
 use Rattle.vl_steps.specs.laws.Fitted.{written_by}
@@ -16,6 +16,7 @@ use Rattle.vl_engine.proofs.WriteRemoved.{removes_by, stock_by}
 use Rattle.vl_space.specs.Removing.{Removes}
 use Rattle.vl_engine_model.specs.declared.layout.Layout.{Layout}
 use Rattle.vl_model.specs.declared.counter.Counter.TheVariants as counters
+use Rattle.vl_version.specs.declared.version.Version.{Version}
 
 pub returns-in_default-clause-carries : goal.returns-in_default-clause-carries
 returns-in_default-clause-carries g c h l reads is lives notes =
@@ -348,3 +349,25 @@ returns-in-Write-clause-removes g c h l reads is removes lives notes =
 pub returns-in-Write-clause-stock : goal.returns-in-Write-clause-stock
 returns-in-Write-clause-stock g c =
     stock_by c.args.txn.ticket c.args.self.now.removing c.write.new.self.removing c.write.result c.write.ensures.removing
+
+-- ---- the runs in memory
+
+pub returns-in-Halted-clause-runs : goal.returns-in-Halted-clause-runs
+returns-in-Halted-clause-runs g c = ap (λ (v : Version g.row.D-Held.Denot). v.active.lengths) c.forget.ensures.version
+
+pub returns-in-Nothing-clause-runs : goal.returns-in-Nothing-clause-runs
+returns-in-Nothing-clause-runs g c = ap (λ (v : Version g.row.D-Held.Denot). v.active.lengths) c.forget-in-Nothing.ensures.version
+
+pub returns-in-Conflict-clause-runs : goal.returns-in-Conflict-clause-runs
+returns-in-Conflict-clause-runs g c = ap (λ (v : Version g.row.D-Held.Denot). v.active.lengths) c.forget-in-Conflict.ensures.version
+
+-- ---- what is forgotten
+
+pub returns-in-Halted-clause-pruned : goal.returns-in-Halted-clause-pruned
+returns-in-Halted-clause-pruned g c none = c.forget.ensures.pruned
+
+pub returns-in-Nothing-clause-pruned : goal.returns-in-Nothing-clause-pruned
+returns-in-Nothing-clause-pruned g c none = c.forget-in-Nothing.ensures.pruned
+
+pub returns-in-Conflict-clause-pruned : goal.returns-in-Conflict-clause-pruned
+returns-in-Conflict-clause-pruned g c none = c.forget-in-Conflict.ensures.pruned

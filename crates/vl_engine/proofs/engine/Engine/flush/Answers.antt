@@ -1,4 +1,4 @@
-use Rattle.std.proofs.Common.{arith, refl, sym}
+use Rattle.std.proofs.Common.{arith, length, refl, sym}
 use Rattle.vl_disk.specs.declared.name.Name.TheVariants as names
 use Rattle.vl_engine.proofs.Retired.Flushing.{flush_removes}
 use Rattle.vl_space.specs.Removing.{Removes}
@@ -21,6 +21,9 @@ use Rattle.vl_engine_model.specs.Decides.{as_before}
 use Rattle.vl_engine_model.specs.Ruling.{Exhausted, Halted, Idle}
 use Rattle.vl_engine_model.specs.Rulings.Flush.{flush_ruling}
 use Rattle.vl_steps.specs.laws.Untold.{flush_untold}
+use Rattle.vl_engine.proofs.StockExits.{flushed}
+use Rattle.vl_engine_laws.specs.Lent.{lent_in}
+use Rattle.vl_space.specs.laws.Retired.Changing.{stays_itself}
 use Rattle.vl_engine.proofs.engine.Engine.flush.Goals as goal
 
 -- it is halted
@@ -367,3 +370,20 @@ returns-in-Go-clause-removes g c state h l told is opens can collects removes =
     c.make_table.new.self.collecting collects (λ running. (can running).0) (flush_effects c.make_table.result) c.make_table.result
     c.make_table.ensures.as_flushed c.make_table.ensures.collected c.make_table.ensures.retires
     (returns-in-Go-clause-stands g c state h l told is can)
+
+-- the files in use, and those that wait, whatever is told
+
+pub returns-in-Some-clause-retires : goal.returns-in-Some-clause-retires
+returns-in-Some-clause-retires g c = stays_itself c.args.self.now.core c.args.self.now.removing.stock
+
+pub returns-in-Idle-clause-retires : goal.returns-in-Idle-clause-retires
+returns-in-Idle-clause-retires g c = stays_itself c.args.self.now.core c.args.self.now.removing.stock
+
+pub returns-in-Exhausted-clause-retires : goal.returns-in-Exhausted-clause-retires
+returns-in-Exhausted-clause-retires g c = stays_itself c.args.self.now.core c.args.self.now.removing.stock
+
+pub returns-in-Go-clause-retires : goal.returns-in-Go-clause-retires
+returns-in-Go-clause-retires g c =
+    flushed c.args.self.now.core c.args.self.now.removing.stock (length (lent_in c.args.self.now.merging))
+    c.make_table.new.self.core c.make_table.new.self.removing.stock c.make_table.new.self.collecting.tally c.make_table.result
+    c.make_table.ensures.retires

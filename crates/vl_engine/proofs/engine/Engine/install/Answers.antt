@@ -7,6 +7,9 @@ use Rattle.vl_steps.specs.laws.InstallExits.{stopped_by, untold_by, untouched_by
 use Rattle.vl_steps.specs.laws.InstallTotal.{core_by, halted_at, none_races, not_halted, written_by}
 use Rattle.vl_engine_laws.specs.laws.Untouched.{alone}
 use Rattle.vl_compact.specs.Progress.{made_of}
+use Rattle.vl_compact.specs.Racing.{IsMoved}
+use Rattle.vl_engine.proofs.Refusing.{raced_by, unraced}
+use Rattle.vl_engine.specs.Refusals.{moved_in}
 use Rattle.vl_engine.proofs.Switching.{install_collects, install_err, install_passes}
 use Rattle.vl_engine_laws.specs.Lent.{StandsOpen}
 use Rattle.vl_steps.specs.Merging.{install_effects, made_numbers}
@@ -23,6 +26,8 @@ use Rattle.vl_engine.proofs.Retired.Installs.{short_by, way_of, whole_numbers}
 use Rattle.vl_space.specs.Removing.{Removes}
 use Rattle.vl_engine_laws.specs.Lent.{lent_in}
 use Rattle.vl_engine_model.specs.Jobs.{job_ended}
+use Rattle.vl_engine.proofs.StockExits.{installed}
+use Rattle.vl_space.specs.laws.Retired.Changing.{stays_itself}
 use Rattle.vl_engine.proofs.engine.Engine.install.Goals as goal
 
 -- a call failed before
@@ -518,3 +523,39 @@ returns-in-Ok-Some-clause-unpinned g c name is = not_halted c.args.self.now.core
 
 pub returns-in-Err-clause-unpinned : goal.returns-in-Err-clause-unpinned
 returns-in-Err-clause-unpinned g c name is = not_halted c.args.self.now.core.front.halted name c.in_default.is is
+
+-- what it is raced by
+
+pub returns-in-Some-clause-raced : goal.returns-in-Some-clause-raced
+returns-in-Some-clause-raced g c key epoch is = absurd cc
+
+pub returns-in-Err-clause-raced : goal.returns-in-Err-clause-raced
+returns-in-Err-clause-raced g c key epoch is = absurd cc
+
+pub returns-in-Ok-Some-clause-raced : goal.returns-in-Ok-Some-clause-raced
+returns-in-Ok-Some-clause-raced g c key epoch is =
+    raced_by (IsMoved (moved_in c.args.self.now.merging) c.args.job.needless.items) c.in-Ok-Some.key key c.in-Ok-Some.epoch epoch is
+    (c.in-Ok-Some.ensures.cause (c.in-Ok-Some.key, c.in-Ok-Some.epoch) c.in-Ok-Some.field-0-is)
+
+pub returns-in-Ok-None-clause-raced : goal.returns-in-Ok-None-clause-raced
+returns-in-Ok-None-clause-raced g c key epoch is =
+    unraced g.D.Watched g.D.Held.HeldFile.bytes g.D.Writer.Writer c.args.job c.args.self.now.disk c.install_unraced.new.self.disk
+    c.args.self.now.core c.install_unraced.new.self.core c.install_unraced.result key epoch c.install_unraced.ensures.as_unraced is
+
+-- the files in use, and those that wait, whatever is told
+
+pub returns-in-Some-clause-retires : goal.returns-in-Some-clause-retires
+returns-in-Some-clause-retires g c =
+    (c.abandon.ensures.pins, c.abandon.ensures.left)
+
+pub returns-in-Ok-Some-clause-retires : goal.returns-in-Ok-Some-clause-retires
+returns-in-Ok-Some-clause-retires g c = (c.abandon-in-Ok-Some.ensures.pins, c.abandon-in-Ok-Some.ensures.left)
+
+pub returns-in-Err-clause-retires : goal.returns-in-Err-clause-retires
+returns-in-Err-clause-retires g c = (refl, stays_itself c.args.self.now.core c.args.self.now.removing.stock)
+
+pub returns-in-Ok-None-clause-retires : goal.returns-in-Ok-None-clause-retires
+returns-in-Ok-None-clause-retires g c =
+    installed c.args.job c.args.self.now.core c.install_unraced.new.self.core c.args.self.now.removing
+    c.install_unraced.new.self.removing c.install_unraced.new.self.collecting.tally (length (lent_in c.args.self.now.merging))
+    c.install_unraced.result c.install_unraced.ensures.retires

@@ -3,6 +3,10 @@ use Rattle.vl_seglog.specs.declared.sealed.SealedLog.{SealedLog}
 use Rattle.vl_compact.specs.Progress.{made_of}
 use Rattle.vl_disk.specs.declared.errors.NoMemory.{NoMemory}
 use Rattle.vl_engine_laws.specs.laws.Carrying.{IsWatched}
+use Rattle.vl_engine.proofs.MergedExits.{below_install, below_same, just_unmoved, left_halted, made_above, merge_planned, merged}
+use Rattle.vl_engine.proofs.MergedExits.{never_put, none_due, one_job, put_halted, puts_in, same_drawn, unmade, unmoved, unplanned, unput}
+use Rattle.vl_engine.proofs.Refusing.{below_none, below_then, leaves_store}
+use Rattle.vl_engine.specs.Refusals.{moment, moved_in}
 use Rattle.vl_engine.proofs.UnderWay.{handed_back_way, just_planned, none_open}
 use Rattle.vl_engine_laws.specs.declared.kept.Core.{Core}
 use Rattle.vl_engine.proofs.MergeRemoved.{abandoned_removing, install_unpinned, is_halted, not_put_in, put_in_removing}
@@ -11,7 +15,7 @@ use Rattle.vl_engine.proofs.Whole.{begun, begun_with, collects_so, abandoned, ab
 use Rattle.vl_engine.proofs.Switching.{install_idle}
 use Rattle.vl_engine.proofs.Whole.{put_in_collecting, unless_halted, untouched_by, untouched_collecting}
 use Rattle.vl_steps.specs.declared.fails.InstallFail.TheVariants as fails
-use Rattle.vl_steps.specs.Merging.{HasAllMerge, OpensMerge}
+use Rattle.vl_steps.specs.Merging.{HasAllMerge, OpensMerge, made_numbers}
 use Rattle.vl_space.specs.Pinning.{PinsMerge}
 use Rattle.vl_space.specs.Removing.{Removes}
 use Rattle.vl_engine.specs.Whole.{kept_of}
@@ -427,3 +431,178 @@ returns-in-Err-install-clause-removes g c h l is stands fits has removes =
     (handed_back_way g.D.Watched c.carry_out.new.self.disk c.install.new.self.disk c.carry_out.new.self.core c.install.new.self.core
     c.carry_out.new.job c.carry_out.new.self.merging c.install.new.self.merging c.in-Err-install.fail c.in_default-carry_out.ensures.handed
     c.in-Err-install.ensures.handed c.in-Err-install.ensures.core c.in-Err-install.ensures.untouched)
+
+-- ---- what it answers has its cause
+
+pub returns-in_err-job-clause-as_merged : goal.returns-in_err-job-clause-as_merged
+returns-in_err-job-clause-as_merged g c =
+    let old = moment c.args.self.now.core c.args.self.now.merging c.args.self.now.disk in
+    let p = moment c.plan.new.self.core c.plan.new.self.merging c.plan.new.self.disk in
+    unplanned g.D.Watched g.D.Writer.Writer g.D.Held.HeldFile.bytes (λ r. g.D.Reader.Reader.faults r) old p
+    (same_drawn g.D.Watched old p (record { core = c.plan.ensures.core; disk = c.plan.ensures.disk })) c.from_residual.result
+    c.from_residual.ensures.1
+
+pub returns-in_default-clause-as_merged : goal.returns-in_default-clause-as_merged
+returns-in_default-clause-as_merged g c = (c.plan.ensures.core, c.plan.ensures.disk)
+
+pub returns-in-Err-clause-as_merged : goal.returns-in-Err-clause-as_merged
+returns-in-Err-clause-as_merged g c =
+    unmade g.D.Watched g.D.Writer.Writer g.D.Held.HeldFile.bytes (λ r. g.D.Reader.Reader.faults r)
+    (moment c.args.self.now.core c.args.self.now.merging c.args.self.now.disk)
+    (moment c.plan.new.self.core c.plan.new.self.merging c.plan.new.self.disk)
+    (moment c.carry_out.new.self.core c.carry_out.new.self.merging c.carry_out.new.self.disk)
+    (moment c.abandon.new.self.core c.abandon.new.self.merging c.abandon.new.self.disk) c.in-Some.job c.carry_out.new.job.after
+    (record { core = c.plan.ensures.core; disk = c.plan.ensures.disk })
+    (record { core = c.abandon.ensures.core; disk = c.abandon.ensures.disk })
+    (c.in_ok-job.ensures.base c.in-Some.job c.in-Some.is)
+    (λ h l stands. merge_planned g.D.Writer.Writer g.D.Held.HeldFile.bytes c.in-Some.job c.in_ok-job.field-0
+    (plan_ruling l h).answer c.in-Some.is (c.in_ok-job.ensures.job h l stands)) c.in-Err.fail c.in-Err.ensures.as_made
+
+pub returns-in-Ok-clause-as_merged : goal.returns-in-Ok-clause-as_merged
+returns-in-Ok-clause-as_merged g c =
+    merged g.D.Watched g.D.Writer.Writer g.D.Held.HeldFile.bytes (λ r. g.D.Reader.Reader.faults r)
+    (moment c.args.self.now.core c.args.self.now.merging c.args.self.now.disk)
+    (moment c.plan.new.self.core c.plan.new.self.merging c.plan.new.self.disk)
+    (moment c.carry_out.new.self.core c.carry_out.new.self.merging c.carry_out.new.self.disk)
+    (moment c.install.new.self.core c.install.new.self.merging c.install.new.self.disk) c.carry_out.new.job
+    (record { core = c.plan.ensures.core; disk = c.plan.ensures.disk }) c.in_default-carry_out.ensures.as_made c.in-Ok.ensures.core
+    c.in-Ok.ensures.written c.in-Ok.ensures.calls c.in-Ok.ensures.cause
+
+pub returns-in-Err-install-clause-as_merged : goal.returns-in-Err-install-clause-as_merged
+returns-in-Err-install-clause-as_merged g c =
+    unput g.D.Watched g.D.Writer.Writer g.D.Held.HeldFile.bytes (λ r. g.D.Reader.Reader.faults r)
+    (moment c.args.self.now.core c.args.self.now.merging c.args.self.now.disk)
+    (moment c.plan.new.self.core c.plan.new.self.merging c.plan.new.self.disk)
+    (moment c.carry_out.new.self.core c.carry_out.new.self.merging c.carry_out.new.self.disk)
+    (moment c.install.new.self.core c.install.new.self.merging c.install.new.self.disk)
+    (moment c.abandoned.new.self.core c.abandoned.new.self.merging c.abandoned.new.self.disk) c.carry_out.new.job
+    (record { core = c.plan.ensures.core; disk = c.plan.ensures.disk })
+    (record { core = c.abandoned.ensures.core; disk = c.abandoned.ensures.disk }) c.in_default-carry_out.ensures.as_made
+    c.in-Err-install.fail c.in-Err-install.ensures.core c.in-Err-install.ensures.untouched c.in-Err-install.ensures.stopped
+    c.in-Err-install.ensures.cause
+    (λ key n is. unmoved (moved_in c.carry_out.new.self.merging) c.carry_out.new.job.needless.items (key, n)
+    (just_unmoved c.plan.new.self.core.back.state.next_table c.plan.new.self.merging c.carry_out.new.self.merging
+    (subst (λ (o : Option _). OpensMerge {E = NoMemory} c.args.self.now.merging c.plan.new.self.merging (Ok o)) c.in-Some.is
+    c.in_ok-job.ensures.merging) c.carry_out.ensures.lends) (c.in-Err-install.ensures.raced key n is))
+    c.abandoned.result c.abandoned.ensures.refusal
+
+-- a halted engine did nothing
+
+pub returns-in_err-job-clause-untouched : goal.returns-in_err-job-clause-untouched
+returns-in_err-job-clause-untouched g c name is =
+    leaves_store g.D.Watched (moment c.args.self.now.core c.args.self.now.merging c.args.self.now.disk)
+    (moment c.plan.new.self.core c.plan.new.self.merging c.plan.new.self.disk) (c.plan.ensures.core, c.plan.ensures.disk)
+
+pub returns-in_default-clause-untouched : goal.returns-in_default-clause-untouched
+returns-in_default-clause-untouched g c name is =
+    leaves_store g.D.Watched (moment c.args.self.now.core c.args.self.now.merging c.args.self.now.disk)
+    (moment c.plan.new.self.core c.plan.new.self.merging c.plan.new.self.disk) (c.plan.ensures.core, c.plan.ensures.disk)
+
+pub returns-in-Err-clause-untouched : goal.returns-in-Err-clause-untouched
+returns-in-Err-clause-untouched g c name is =
+    left_halted g.D.Watched (moment c.args.self.now.core c.args.self.now.merging c.args.self.now.disk)
+    (moment c.plan.new.self.core c.plan.new.self.merging c.plan.new.self.disk)
+    (moment c.carry_out.new.self.core c.carry_out.new.self.merging c.carry_out.new.self.disk)
+    (record { core = c.plan.ensures.core; disk = c.plan.ensures.disk }) name is
+    (moment c.abandon.new.self.core c.abandon.new.self.merging c.abandon.new.self.disk)
+    (record { core = c.abandon.ensures.core; disk = c.abandon.ensures.disk }) c.carry_out.ensures.idle
+
+pub returns-in-Ok-clause-untouched : goal.returns-in-Ok-clause-untouched
+returns-in-Ok-clause-untouched g c name is =
+    never_put g.D.Watched (moment c.args.self.now.core c.args.self.now.merging c.args.self.now.disk)
+    (moment c.plan.new.self.core c.plan.new.self.merging c.plan.new.self.disk)
+    (moment c.carry_out.new.self.core c.carry_out.new.self.merging c.carry_out.new.self.disk)
+    (record { core = c.plan.ensures.core; disk = c.plan.ensures.disk }) name is c.install.new.self.core c.carry_out.ensures.idle
+    c.in-Ok.ensures.core
+
+pub returns-in-Err-install-clause-untouched : goal.returns-in-Err-install-clause-untouched
+returns-in-Err-install-clause-untouched g c name is =
+    put_halted g.D.Watched (moment c.args.self.now.core c.args.self.now.merging c.args.self.now.disk)
+    (moment c.plan.new.self.core c.plan.new.self.merging c.plan.new.self.disk)
+    (moment c.carry_out.new.self.core c.carry_out.new.self.merging c.carry_out.new.self.disk)
+    (record { core = c.plan.ensures.core; disk = c.plan.ensures.disk }) name is
+    (moment c.install.new.self.core c.install.new.self.merging c.install.new.self.disk)
+    (moment c.abandoned.new.self.core c.abandoned.new.self.merging c.abandoned.new.self.disk)
+    (record { core = c.abandoned.ensures.core; disk = c.abandoned.ensures.disk }) c.carry_out.ensures.idle
+    c.in-Err-install.fail c.in-Err-install.ensures.core c.in-Err-install.ensures.untouched c.in-Err-install.ensures.halted
+
+-- which files come and go
+
+pub returns-in_err-job-clause-files : goal.returns-in_err-job-clause-files
+returns-in_err-job-clause-files g c =
+    below_none c.args.self.now.core.back.state.next_table (g.D.Watched.told c.args.self.now.disk)
+    (g.D.Watched.told c.plan.new.self.disk) (ap g.D.Watched.told c.plan.ensures.disk)
+
+pub returns-in_default-clause-files : goal.returns-in_default-clause-files
+returns-in_default-clause-files g c =
+    below_none c.args.self.now.core.back.state.next_table (g.D.Watched.told c.args.self.now.disk)
+    (g.D.Watched.told c.plan.new.self.disk) (ap g.D.Watched.told c.plan.ensures.disk)
+
+pub returns-in-Err-clause-files : goal.returns-in-Err-clause-files
+returns-in-Err-clause-files g c =
+    below_same g.D.Watched (moment c.args.self.now.core c.args.self.now.merging c.args.self.now.disk)
+    (moment c.plan.new.self.core c.plan.new.self.merging c.plan.new.self.disk)
+    (moment c.carry_out.new.self.core c.carry_out.new.self.merging c.carry_out.new.self.disk)
+    (moment c.abandon.new.self.core c.abandon.new.self.merging c.abandon.new.self.disk)
+    (record { core = c.plan.ensures.core; disk = c.plan.ensures.disk })
+    (record { core = c.abandon.ensures.core; disk = c.abandon.ensures.disk }) c.carry_out.ensures.files
+
+pub returns-in-Ok-clause-files : goal.returns-in-Ok-clause-files
+returns-in-Ok-clause-files g c =
+    below_same g.D.Watched (moment c.args.self.now.core c.args.self.now.merging c.args.self.now.disk)
+    (moment c.plan.new.self.core c.plan.new.self.merging c.plan.new.self.disk)
+    (moment c.install.new.self.core c.install.new.self.merging c.install.new.self.disk)
+    (moment c.install.new.self.core c.install.new.self.merging c.install.new.self.disk)
+    (record { core = c.plan.ensures.core; disk = c.plan.ensures.disk }) (record { core = refl; disk = refl })
+    (below_then c.plan.new.self.core.back.state.next_table (g.D.Watched.told c.plan.new.self.disk)
+    (g.D.Watched.told c.carry_out.new.self.disk) (g.D.Watched.told c.install.new.self.disk) c.carry_out.ensures.files
+    c.carry_out.ensures.tells
+    (below_install c.plan.new.self.core.back.state.next_table (made_numbers c.carry_out.new.job)
+    (g.D.Watched.told c.carry_out.new.self.disk) (g.D.Watched.told c.install.new.self.disk)
+    (made_above g.D.Watched g.D.Writer.Writer c.plan.new.self.core.back.state.next_table c.carry_out.new.self.disk
+    c.carry_out.new.self.core.front.halted c.plan.new.self.merging c.carry_out.new.self.merging c.carry_out.new.job
+    (subst (λ (o : Option _). OpensMerge {E = NoMemory} c.args.self.now.merging c.plan.new.self.merging (Ok o)) c.in-Some.is
+    c.in_ok-job.ensures.merging) c.carry_out.ensures.lends c.in_default-carry_out.ensures.handed) c.install.ensures.files))
+
+pub returns-in-Err-install-clause-files : goal.returns-in-Err-install-clause-files
+returns-in-Err-install-clause-files g c =
+    below_same g.D.Watched (moment c.args.self.now.core c.args.self.now.merging c.args.self.now.disk)
+    (moment c.plan.new.self.core c.plan.new.self.merging c.plan.new.self.disk)
+    (moment c.install.new.self.core c.install.new.self.merging c.install.new.self.disk)
+    (moment c.abandoned.new.self.core c.abandoned.new.self.merging c.abandoned.new.self.disk)
+    (record { core = c.plan.ensures.core; disk = c.plan.ensures.disk })
+    (record { core = c.abandoned.ensures.core; disk = c.abandoned.ensures.disk })
+    (below_then c.plan.new.self.core.back.state.next_table (g.D.Watched.told c.plan.new.self.disk)
+    (g.D.Watched.told c.carry_out.new.self.disk) (g.D.Watched.told c.install.new.self.disk) c.carry_out.ensures.files
+    c.carry_out.ensures.tells
+    (below_install c.plan.new.self.core.back.state.next_table (made_numbers c.carry_out.new.job)
+    (g.D.Watched.told c.carry_out.new.self.disk) (g.D.Watched.told c.install.new.self.disk)
+    (made_above g.D.Watched g.D.Writer.Writer c.plan.new.self.core.back.state.next_table c.carry_out.new.self.disk
+    c.carry_out.new.self.core.front.halted c.plan.new.self.merging c.carry_out.new.self.merging c.carry_out.new.job
+    (subst (λ (o : Option _). OpensMerge {E = NoMemory} c.args.self.now.merging c.plan.new.self.merging (Ok o)) c.in-Some.is
+    c.in_ok-job.ensures.merging) c.carry_out.ensures.lends c.in_default-carry_out.ensures.handed) c.install.ensures.files))
+
+-- where its tables were put in
+
+pub returns-in_default-clause-put_in : goal.returns-in_default-clause-put_in
+returns-in_default-clause-put_in g c h l is stands fits =
+    none_due _ _ c.in_ok-job.field-0 (plan_ruling l h).answer c.in_default.is (c.in_ok-job.ensures.job h l stands)
+
+pub returns-in-Ok-clause-put_in : goal.returns-in-Ok-clause-put_in
+returns-in-Ok-clause-put_in g c h l is stands fits j planned =
+    let watched : IsWatched g.D.Watched = record { only_now = g.met.D.Disk.only_now; counts_now = g.met.D.Disk.counts_now } in
+    let bytes = g.D.Held.HeldFile.bytes in
+    let opened = begun g.D.Watched watched g.D.Writer.Writer bytes NoMemory c.args.self.now.disk c.plan.new.self.disk c.args.self.now.core
+    c.plan.new.self.core c.plan.new.self.merging c.in-Some.job h l c.plan.ensures.disk is c.in_ok-job.field-0 c.in-Some.is
+    (c.in_ok-job.ensures.stands h l stands) (c.in_ok-job.ensures.represents h l is stands) (c.in_ok-job.ensures.fits h l stands fits)
+    (c.in_ok-job.ensures.job h l stands) in
+    let makes = c.in_default-carry_out.ensures.makes h opened.stays.layout opened.open_job opened.stays.represents opened.stays.stands
+    opened.stays.fits opened.is_open opened.has (c.in_ok-job.ensures.looks h l stands c.in-Some.job c.in-Some.is) in
+    let s = goes_on g.D.Watched bytes c.args.self.now.disk c.plan.new.self.disk c.carry_out.new.self.disk c.plan.new.self.core
+    c.carry_out.new.self.core c.plan.new.self.merging c.carry_out.new.self.merging h l opened.stays opened.alike makes.stays in
+    let whole = subst (λ (j : Job). HasAllMerge g.D.Writer.Writer bytes c.carry_out.new.job j) (sym makes.job_is) makes.whole in
+    let lent = subst (λ (j : Job). AreLent makes.open_job.lent (made_of c.carry_out.new.job j)) (sym makes.job_is) makes.lent in
+    puts_in g.D.Writer.Writer bytes c.carry_out.new.job (g.D.Watched.told c.install.new.self.disk) c.install.new.self.core h l s.layout
+    makes.open_job.job j s.same (makes.levels ∙ opened.tables.levels) (makes.flushed ∙ opened.tables.flushed) whole _ _
+    (c.in-Ok.ensures.carries h s.layout makes.open_job s.represents s.stands makes.is_open whole lent).decides
+    (makes.job_is ∙ one_job opened.open_job.job j (sym opened.planned ∙ planned))

@@ -1,5 +1,7 @@
 use Rattle.std.proofs.Common.{◌≤◌, arith, ap, length, sym, ◌∙◌}
 use Rattle.vl_engine_laws.specs.MoveFacts.{move_length}
+use Rattle.vl_engine_laws.specs.declared.kept.Core.{Core}
+use Rattle.vl_steps.specs.Relocating.{lengths_after}
 use Rattle.vl_steps.specs.laws.RelocatingWritten.{no_name, relocated_by, some_left}
 use Rattle.vl_engine.proofs.engine.Engine.move_again.Goals as goal
 
@@ -21,3 +23,8 @@ returns-in-Ok-write_moves-clause-as_moved g c =
     (omega (arith, c.if-self-ge-MAX_EPOCH.false))
     (omega (arith, fits, frame_is))
     c.in-Ok-write_moves.ensures.as_written
+
+pub returns-in-Ok-write_moves-clause-runs : goal.returns-in-Ok-write_moves-clause-runs
+returns-in-Ok-write_moves-clause-runs g c =
+    c.in-Ok-write_moves.ensures.runs
+    ∙ ap (λ (core : Core g.row.D-Held.Denot). lengths_after c.in-Ok-write_moves.count core.version.active.lengths) c.in-Ok.ensures.same

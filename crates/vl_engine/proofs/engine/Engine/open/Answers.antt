@@ -1,9 +1,10 @@
 use Rattle.std.proofs.Common.{refl, ap, subst, sym, ◌∙◌}
-use Rattle.std.specs.Prelude.{List, max}
+use Rattle.std.specs.Prelude.{All, List, max}
 use Rattle.vl_disk.specs.Moments.{waits}
 use Rattle.vl_engine_laws.specs.laws.FitsAtStart.{opened_fits}
 use Rattle.vl_engine_laws.specs.laws.Opened.{opened_back, opened_core, opened_fit, opened_numbered, opened_represents}
 use Rattle.vl_engine_laws.specs.laws.Opened.{opened_stands, opening_through, opens_still}
+use Rattle.vl_engine.proofs.OpenedRuns.{all_reversed, as_fault}
 use Rattle.vl_engine.proofs.engine.Engine.open.Goals as goal
 use Rattle.vl_engine_laws.specs.Found.{recovered}
 use Rattle.vl_engine_laws.specs.Known.{are_known}
@@ -17,6 +18,7 @@ use Rattle.vl_seglog.specs.declared.sealed.SealedLog.{SealedLog}
 use Rattle.vl_engine_laws.specs.Found.{AreLeveled}
 use Rattle.vl_memtable.specs.Contents.{Contents}
 use Rattle.vl_recover.specs.opening.Intact.{LeavesIntact}
+use Rattle.vl_recover.specs.opening.Results.{IsOneRun}
 
 -- ---- where there was no memory
 
@@ -335,3 +337,26 @@ returns-clause-removes g c state read found h told is_read shown =
     (sym c.new.ensures.logs)
     (sealed_begun g.D.Held.HeldFile.bytes found h shown c.args.room c.in-Ok-recover.parts.sealed.items
     (c.in-Ok-recover.ensures.logs state read found told is_read)))
+
+-- ---- a fault of the reader
+
+pub returns-in_default-clause-read_fault : goal.returns-in_default-clause-read_fault
+returns-in_default-clause-read_fault g c some = absurd (some refl)
+
+pub returns-in-Err-clause-read_fault : goal.returns-in-Err-clause-read_fault
+returns-in-Err-clause-read_fault g c some = as_fault c.in-Err.fail.why (c.in-Err.ensures.read_fault some)
+
+pub returns-clause-read_fault : goal.returns-clause-read_fault
+returns-clause-read_fault g c some = absurd (some refl)
+
+-- ---- the runs in memory
+
+pub returns-clause-runs : goal.returns-clause-runs
+returns-clause-runs g c =
+    subst (All IsOneRun) (sym c.new.ensures.frozen) (all_reversed IsOneRun c.in-Ok-recover.parts.frozen.items c.in-Ok-recover.ensures.runs)
+
+pub returns-clause-active : goal.returns-clause-active
+returns-clause-active g c = c.new.ensures.active
+
+pub returns-clause-pruned : goal.returns-clause-pruned
+returns-clause-pruned g c = c.new-2.ensures.pruned

@@ -1,4 +1,4 @@
-use Rattle.std.proofs.Common.{arith, refl, subst, sym}
+use Rattle.std.proofs.Common.{arith, length, refl, subst, sym}
 use Rattle.vl_engine_laws.specs.Represents.{Fronts}
 use Rattle.vl_steps.specs.laws.Begins.{keeps_told}
 use Rattle.vl_engine.proofs.Collected.{refused_undone, rotate_collects, rotate_leaves, rotate_passes, step_left}
@@ -15,6 +15,8 @@ use Rattle.vl_steps.specs.Rotating.{rotate_effects}
 use Rattle.vl_steps.specs.Stepping.{StepFailed}
 use Rattle.vl_engine_model.specs.Rulings.Rotate.{rotate_ruling}
 use Rattle.vl_steps.specs.laws.Untold.{rotate_untold, untold_same}
+use Rattle.vl_engine.proofs.StockExits.{rotated, rotated_none}
+use Rattle.vl_engine_laws.specs.Lent.{lent_in}
 use Rattle.vl_engine.proofs.engine.Engine.rotate.Goals as goal
 
 -- none is begun
@@ -197,3 +199,15 @@ returns-in-None-clause-removes g c h l is opens has removes =
     c.seal_active.ensures.pins g.D.Watched c.args.self.now.disk c.seal_active.new.self.disk (Fronts c.seal_active.new.self.core)
     (rotate_effects c.seal_active.result) c.seal_active.result c.seal_active.ensures.as_rotated c.seal_active.ensures.sealed
     (returns-in-None-clause-decides g c h l is.fronts has is.tidy.true_logs.0)
+
+-- the files in use, and those that wait, whatever is told
+
+pub returns-in-Some-clause-retires : goal.returns-in-Some-clause-retires
+returns-in-Some-clause-retires g c =
+    rotated_none c.args.self.now.core c.args.self.now.removing.stock (length (lent_in c.args.self.now.merging)) c.in-Some.answer
+    c.in-Some.ensures.refused
+
+pub returns-in-None-clause-retires : goal.returns-in-None-clause-retires
+returns-in-None-clause-retires g c =
+    rotated c.args.self.now.core c.args.self.now.removing.stock (length (lent_in c.args.self.now.merging))
+    c.seal_active.new.self.removing.stock c.seal_active.result c.seal_active.ensures.sealed

@@ -16,6 +16,7 @@ use Rattle.vl_engine_laws.specs.Fit.{IsFitFor}
 use Rattle.vl_engine_laws.specs.Known.{are_known}
 use Rattle.vl_front.specs.Decisions.{MayWrite}
 use Rattle.std.specs.FinMap.{entries}
+use Rattle.vl_memtable.specs.Lengths.{lengths_with}
 use Rattle.vl_model.specs.Keys.{Writes}
 use Rattle.vl_oracle.specs.LiveTickets as oracle
 use Rattle.vl_oracle.specs.LiveTickets.{LiveTickets}
@@ -200,3 +201,25 @@ invariant_of-self-2-clause-there g c running =
     (leaves_then g.D.Watched next before.disk c.stage_commit.new.disk c.append_durably.new.disk (c.in-Ok.ensures.lent next)
     (c.append_durably.ensures.lent next))
     (before.there (sym (c.committed.ensures.log.halted ∙ same.log.halted) ∙ running))
+
+-- ---- the runs in memory
+
+pub returns-in_default-clause-runs : goal.returns-in_default-clause-runs
+returns-in_default-clause-runs g c = ap (λ (v : Version g.row.D-Held.Denot). v.active.lengths) c.in_default.ensures.version
+
+pub returns-in_default-append_durably-clause-runs : goal.returns-in_default-append_durably-clause-runs
+returns-in_default-append_durably-clause-runs g c =
+    ap (λ (v : Version g.row.D-Held.Denot). v.active.lengths) c.in-Ok.ensures.version
+
+pub returns-clause-runs : goal.returns-clause-runs
+returns-clause-runs g c =
+    ap (λ (v : Version g.row.D-Held.Denot). v.active.lengths) c.set_active.ensures ∙ c.in-Ok.ensures.lengths
+    ∙ ap (λ (w : Writes). lengths_with (length (entries w)) c.args.self.now.core.version.active.lengths) c.writes.ensures
+
+-- ---- what is forgotten
+
+pub returns-in_default-append_durably-clause-pruned : goal.returns-in_default-append_durably-clause-pruned
+returns-in_default-append_durably-clause-pruned g c none = c.end.ensures.pruned
+
+pub returns-clause-pruned : goal.returns-clause-pruned
+returns-clause-pruned g c none = c.committed.ensures.pruned

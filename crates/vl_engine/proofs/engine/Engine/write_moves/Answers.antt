@@ -1,4 +1,4 @@
-use Rattle.std.proofs.Common.{◌≡◌, ◌+◌, ℕ, ap, arith, refl, subst, sym, ◌∙◌}
+use Rattle.std.proofs.Common.{◌≡◌, ◌+◌, ℕ, ap, arith, length, refl, subst, sym, ◌∙◌}
 use Rattle.std.specs.Option.{ForSome}
 use Rattle.std.specs.Prelude.{Option, List, true}
 use Rattle.vl_engine_laws.specs.Fit.{IsFitFor}
@@ -17,6 +17,8 @@ use Rattle.vl_space.specs.laws.There.Kept.{same_stand}
 use Rattle.vl_steps.specs.laws.Untold.{untold_by}
 use Rattle.vl_steps.specs.laws.RelocatingWritten.{fit_moved, lent_moved, move_changed, move_handed, move_longer, move_stopped, notes_then}
 use Rattle.vl_steps.specs.laws.RelocatingStaged.{staged_known}
+use Rattle.vl_steps.specs.Relocating.{lengths_after}
+use Rattle.vl_steps.specs.laws.RunLengths.{some_after}
 use Rattle.vl_model.specs.declared.entry.Entry.{Entry}
 use Rattle.vl_seglog.specs.declared.active.ActiveLog.{ActiveLog}
 use Rattle.vl_version.specs.declared.version.Version.{Version}
@@ -127,3 +129,11 @@ returns-clause-as_written g c =
       notes_then c.args.self.now.merging c.note_moves.new.merging c.in-Ok.staged.notes.items _ c.in-Ok.ensures.staged.notes.are
           c.note_moves.ensures,
     )
+
+-- the runs in memory
+pub returns-clause-runs : goal.returns-clause-runs
+returns-clause-runs g c =
+    let old = c.args.self.now.core.version.active.lengths in
+    ap (λ (v : Version g.row.D-Held.Denot). v.active.lengths) c.set_active.ensures ∙ c.in-Ok.ensures.lengths
+    ∙ some_after (length c.args.moved.now) old c.requires.may.relocation.some
+    ∙ ap (λ (n : ℕ). lengths_after n old) (sym c.in-Ok.ensures.staged.count)
