@@ -21,6 +21,7 @@ pub mod Owning
 pub mod PassLaws
 pub mod Picking
 pub mod Planning
+pub mod Refused
 pub mod Sessions
 pub mod ShopKept
 pub mod ShopPicks

@@ -126,7 +126,7 @@ EndsJob (Some e) = e.step ≡ JobEnded
 
 -- ---- which merge it was
 
-entry_behind : (list now : List LockEntry) (e : Option LockEntry) → now ≡ with_entry list e → IsPrefix list now
+pub entry_behind : (list now : List LockEntry) (e : Option LockEntry) → now ≡ with_entry list e → IsPrefix list now
 entry_behind list now None is = ([], sym (nil_after list) ∙ sym is)
 entry_behind list now (Some e) is = (e ∷ [], sym is)
 

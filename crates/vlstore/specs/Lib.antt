@@ -5,6 +5,7 @@ pub mod Knowing
 pub mod Lists
 pub mod Merges
 pub mod Merging
+pub mod Refused
 pub mod Reopening
 pub mod Sequences
 pub mod Shops

@@ -1,8 +1,11 @@
-ghost use Rattle.std.specs.Prelude.{◌≡◌, IfOk, OnOk, true};
+ghost use Rattle.std.specs.Prelude.{◌≡◌, IfErr, IfOk, OnOk, true};
+ghost use Rattle.vl_engine.specs.Refusals.{of_install};
 ghost use Rattle.vl_steps.specs.Merging.{FitsReaders};
 ghost use Rattle.vl_engine_model.specs.declared.job.Job as laid_job;
 ghost use Rattle.vlstore.specs.Handing.{IfHandedBack, IsHandedBack, IsHandedInto, IsUnderWayIn};
 ghost use Rattle.vlstore.specs.Knowing.{GoesOn, IsOwnJob};
+ghost use Rattle.vlstore.specs.Refused.{IsRefused, StopsMaking};
+ghost use Rattle.vlstore.specs.Standing.{NeverFails};
 ghost use Rattle.vlstore.specs.Merging.{Did, IsChange, IsWork, MergedAt};
 
 use super::Session;
@@ -25,6 +28,9 @@ impl<D: Disk> Session<D> {
         // Its own steps commit nothing and leave what it began. The merge is the one that the ruling on plans has.
         ensures works { self.old.tells ≡ true → Did IsWork self.old self.new }
         ensures merged { self.old.tells ≡ true → IfOk result (MergedAt self.old self.new) }
+        // Each refusal has its cause.
+        ensures refused { self.old.tells ≡ true → IfErr result (IsRefused self.old self.new
+            (NeverFails D.faults D.Reader.faults D.Writer.faults) D.Writer.Writer D.Held.bytes (λ r. D.Reader.faults r)) }
         // No merge of its own is left open that wasn't before.
         ensures over { self.old.tells ≡ true → (job : laid_job.Job) → IsOwnJob self.new job → IsOwnJob self.old job }
     {
@@ -56,6 +62,10 @@ impl<D: Disk> Session<D> {
         ensures changes { self.old.tells ≡ true → Did IsChange self.old self.new }
         ensures under_way { IsUnderWayIn self.new D.Writer.Writer D.Held.bytes job.new }
         ensures handed { OnOk result (IsHandedInto self.new D.Writer.Writer D.Held.bytes job.new) }
+        // Each refusal has its cause.
+        ensures refused { self.old.tells ≡ true → IfErr result (StopsMaking self.old self.new
+            (NeverFails D.faults D.Reader.faults D.Writer.faults) D.Writer.Writer D.Held.bytes (λ r. D.Reader.faults r) job.old
+            job.new.after) }
     {
         let mut reader = self.reader(rt)?;
         'making: for _ in 0..MAX_FILE_NUMBER {
@@ -80,6 +90,7 @@ impl<D: Disk> Session<D> {
         ensures works { self.old.tells ≡ true → Did IsWork self.old self.new }
         ensures over { self.old.tells ≡ true → (job : laid_job.Job) → IsOwnJob self.new job
             → IsOwnJob self.old job × (IsHandedBack fail → ⊥) }
+        ensures refusal { result ≡ of_install fail }
     {
         match fail {
             InstallFail::Halted { name } => MergeFail::Halted { name },

@@ -1,4 +1,4 @@
-use Rattle.std.proofs.Common.{◌≡◌, refl, sym, ◌∙◌, subst}
+use Rattle.std.proofs.Common.{◌≡◌, ◌+◌, List, length, refl, sym, ap, ◌∙◌, subst, arith, inr}
 use Rattle.std.specs.Prelude.{true, IsSome}
 use Rattle.vl_compact.specs.declared.job.Job.{Job}
 use Rattle.vl_disk.specs.DiskState.{new_file}
@@ -11,6 +11,9 @@ use Rattle.vlstore.specs.Merging.{IsChange}
 use Rattle.vlstore.proofs.Drawing.{some_is}
 use Rattle.vlstore.proofs.Making.{all_made, asked_way, left_way, looked_way, on_and_on, still, taken_way}
 use Rattle.vlstore.proofs.Merged.{did_on, did_same, fresh_changes, stepped_so}
+use Rattle.vlstore.proofs.Refused.{drawn_in, fill_fails, fits_at, left_after, read_fails, same_after, short_of_memory, took_one, unlent, unread}
+use Rattle.vlstore.specs.Refused.{WasDrawn}
+use Rattle.vlstore.specs.Standing.{NeverFails}
 use Rattle.vlstore.proofs.session.Session.carry_out.Goals as goal
 
 -- before the first table
@@ -21,6 +24,9 @@ making-init g c = record {
   changes = λ told. did_same IsChange c.args.self.now c.reader.new.self c.reader.ensures.own;
   way = looked_way g.D.Writer.Writer g.D.Held.HeldFile.bytes c.args.self.now c.reader.new.self c.args.job.now c.reader.ensures.on
       c.reader.ensures.own c.requires.under_way;
+  took = λ told. let same = ap (λ (es : List _). length es) c.reader.ensures.own in omega arith;
+  base = refl;
+  inputs = refl;
   fits = λ told. c.requires.looks (sym c.reader.ensures.on.tells ∙ told) c.in_ok-reader.reader.looks c.in_ok-reader.ensures.blocks;
 }
 
@@ -87,6 +93,14 @@ making-preserved g c =
           (λ told. c.in_ok-fill.ensures.next way.planned (reads told)
           (λ f found. some_is f new_file (sym found ∙ c.in_ok-file.ensures.empty (sym on.tells ∙ told)))
           (way.has_merge told));
+      took = λ told. took_one c.args.self.now c.making.self c.fresh.new.self c.making.counter c.in_ok-file.file.number
+          (inv.took told) (c.in_ok-file.ensures.steps (inv.on.tells ∙ told));
+      base = ap (λ (j : Job (Base _ _) _ _ _). j.base) c.in_ok-fill.ensures.takes.kept
+          ∙ ap (λ (j : Job (Base _ _) _ _ _). j.base) c.fresh.ensures.job.same
+          ∙ ap (λ (j : Job (Base _ _) _ _ _). j.base) c.ready.ensures.kept ∙ inv.base;
+      inputs = ap (λ (j : Job (Base _ _) _ _ _). j.inputs) c.in_ok-fill.ensures.takes.kept
+          ∙ ap (λ (j : Job (Base _ _) _ _ _). j.inputs) c.fresh.ensures.job.same
+          ∙ ap (λ (j : Job (Base _ _) _ _ _). j.inputs) c.ready.ensures.kept ∙ inv.inputs;
       fits = λ told. subst (λ (j : Job (Base _ _) _ _ _). bases.Fits bytes j.base.version c.fill.new.reader.looks)
           (sym c.in_ok-fill.ensures.takes.kept) (c.fill.ensures.fits (reads told));
     }
@@ -150,3 +164,55 @@ returns-in_err-fill-clause-changes g c told =
     did_on IsChange c.args.self.now c.making.self c.fresh.new.self (inv.changes told)
     (stepped_so IsChange c.making.self c.fresh.new.self fresh_ruling fresh_entry (fresh_outcome c.fresh.result)
     (λ s l h. fresh_changes s l h (fresh_outcome c.fresh.result)) (c.fresh.ensures.steps (inv.on.tells ∙ told)))
+
+-- ---- why it is refused
+
+pub returns-in_err-reader-clause-refused : goal.returns-in_err-reader-clause-refused
+returns-in_err-reader-clause-refused g c told =
+    short_of_memory (NeverFails g.D.Watched.faults g.D.Reader.Reader.faults g.D.Writer.Writer.faults) g.D.Writer.Writer
+    g.D.Held.HeldFile.bytes (λ r. g.D.Reader.Reader.faults r) c.args.self.now c.reader.new.self c.args.job.now c.args.job.now.after c.from_residual.result
+    c.from_residual.ensures.1
+
+pub returns-in_err-ready-clause-refused : goal.returns-in_err-ready-clause-refused
+returns-in_err-ready-clause-refused g c told =
+    let inv = c.making.invariant in
+    let sure = NeverFails g.D.Watched.faults g.D.Reader.Reader.faults g.D.Writer.Writer.faults in
+    unread sure g.D.Writer.Writer g.D.Held.HeldFile.bytes (λ r. g.D.Reader.Reader.faults r) c.args.self.now c.making.self c.args.job.now
+    c.ready.new.self.after c.in_err-ready.field-0.0 c.from_residual-in_err-ready.result c.from_residual-in_err-ready.ensures.1
+    (read_fails sure g.D.Writer.Writer g.D.Held.HeldFile.bytes (λ r. g.D.Reader.Reader.faults r)
+    (WasDrawn c.args.self.now c.making.self) c.args.job.now c.ready.new.self.after c.making.job.base c.making.job.inputs c.making.job.after c.making.reader c.ready.new.reader
+    c.in_err-ready.field-0.0 inv.base inv.inputs (same_after c.making.job c.ready.new.self c.ready.ensures.kept)
+    (fits_at g.D.Held.HeldFile.bytes c.making.job.base c.args.job.now.base c.making.reader.looks inv.base
+    (inv.fits (inv.on.tells ∙ told)))
+    c.in_err-ready.ensures.cause)
+
+pub returns-in_err-file-clause-refused : goal.returns-in_err-file-clause-refused
+returns-in_err-file-clause-refused g c told =
+    let inv = c.making.invariant in
+    unlent (NeverFails g.D.Watched.faults g.D.Reader.Reader.faults g.D.Writer.Writer.faults) g.D.Writer.Writer g.D.Held.HeldFile.bytes
+    (λ r. g.D.Reader.Reader.faults r) c.args.self.now c.making.self c.fresh.new.self c.args.job.now c.fresh.new.job.after inv.on c.in_err-file.field-0.0
+    (c.in_err-file.ensures.steps (inv.on.tells ∙ told)) c.from_residual-in_err-file.result c.from_residual-in_err-file.ensures.1
+
+pub returns-in_err-fill-clause-refused : goal.returns-in_err-fill-clause-refused
+returns-in_err-fill-clause-refused g c told =
+    let inv = c.making.invariant in
+    let sure = NeverFails g.D.Watched.faults g.D.Reader.Reader.faults g.D.Writer.Writer.faults in
+    let base_is = ap (λ (j : Job (Base _ _) _ _ _). j.base) c.fresh.ensures.job.same
+    ∙ ap (λ (j : Job (Base _ _) _ _ _). j.base) c.ready.ensures.kept ∙ inv.base in
+    let inputs_are = ap (λ (j : Job (Base _ _) _ _ _). j.inputs) c.fresh.ensures.job.same
+    ∙ ap (λ (j : Job (Base _ _) _ _ _). j.inputs) c.ready.ensures.kept ∙ inv.inputs in
+    unread sure g.D.Writer.Writer g.D.Held.HeldFile.bytes (λ r. g.D.Reader.Reader.faults r) c.args.self.now c.fresh.new.self
+    c.args.job.now c.fill.new.self.after c.in_err-fill.field-0.0 c.from_residual-in_err-fill.result c.from_residual-in_err-fill.ensures.1
+    (fill_fails sure g.D.Writer.Writer g.D.Held.HeldFile.bytes (λ r. g.D.Reader.Reader.faults r)
+    (WasDrawn c.args.self.now c.fresh.new.self) c.args.job.now c.fresh.new.job c.fill.new.self c.fill.new.self.after c.in_ok-file.file c.ready.new.reader
+    c.fill.new.reader c.in_err-fill.field-0.0 base_is inputs_are
+    (left_after g.D.Writer.Writer c.in_ok-file.file c.fresh.new.job c.fill.new.self c.in_err-fill.ensures.refused)
+    (fits_at g.D.Held.HeldFile.bytes c.making.job.base c.args.job.now.base c.ready.new.reader.looks inv.base
+    (c.ready.ensures.fits (inv.fits (inv.on.tells ∙ told))))
+    (drawn_in c.args.self.now c.making.self c.fresh.new.self c.in_ok-file.file.number inv.on
+    (c.in_ok-file.ensures.steps (inv.on.tells ∙ told)))
+    c.in_err-fill.ensures.cause)
+
+pub returns-clause-refused : goal.returns-clause-refused
+returns-clause-refused g c told =
+    inr (record { counter_is = refl; took = let took = c.making.invariant.took told in omega arith })

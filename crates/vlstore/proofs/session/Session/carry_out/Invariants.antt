@@ -1,4 +1,4 @@
-use Rattle.std.specs.Prelude.{◌≡◌, true}
+use Rattle.std.specs.Prelude.{◌≡◌, ◌+◌, ◌≤◌, length, true}
 use Rattle.vl_version.specs.Bases as bases
 use Rattle.vlstore.specs.Handing.{IsUnderWayIn}
 use Rattle.vlstore.specs.Knowing.{GoesOn}
@@ -10,5 +10,8 @@ invariant-making g l = record {
   on : GoesOn l.fn.self l.self;
   changes : l.fn.self.tells ≡ true → Did IsChange l.fn.self l.self;
   way : IsUnderWayIn l.self g.D.Writer.Writer g.D.Held.HeldFile.bytes l.job;
+  took : l.fn.self.tells ≡ true → l.counter + length l.fn.self.own ≤ length l.self.own;
+  base : l.job.base ≡ l.fn.job.base;
+  inputs : l.job.inputs ≡ l.fn.job.inputs;
   fits : l.self.tells ≡ true → bases.Fits g.D.Held.HeldFile.bytes l.job.base.version l.reader.looks;
 }

@@ -1,5 +1,5 @@
 use Rattle.std.proofs.Common.{◌≡◌, refl, sym, ◌∙◌, subst}
-use Rattle.std.specs.Prelude.{length, min, ◌^◌, ◌-◌, Option, Ok, Err}
+use Rattle.std.specs.Prelude.{length, min, ◌^◌, ◌-◌, Option, Some, Ok, Err}
 use Rattle.vl_compact.specs.Laid.{AreBoth}
 use Rattle.vl_compact.specs.Progress.{made_of}
 use Rattle.vl_disk.specs.declared.errors.NoMemory.{NoMemory}
@@ -18,7 +18,11 @@ use Rattle.vlstore.proofs.Making.{given_back, on_and_on}
 use Rattle.vlstore.proofs.Merged.{abandon_works, did_on, did_work, install_ends, install_works, job_ended, none_due, none_own, one_due}
 use Rattle.vlstore.proofs.Merged.{own_back, own_stays, plan_works}
 use Rattle.vlstore.proofs.Merged.{planned_own, planned_some, prefix_itself, same_own, stepped_so, was_put_in}
+use Rattle.vlstore.proofs.Refused.{answered_in, goes_nowhere, unmade, unplanned, unput, wider}
 use Rattle.vlstore.proofs.Stores.{prefix_on}
+use Rattle.vlstore.specs.Refused.{Between}
+use Rattle.vl_engine_model.specs.declared.layout.Layout.{Layout}
+use Rattle.vl_model.specs.History.{History}
 use Rattle.vlstore.proofs.session.Session.merge.Goals as goal
 
 -- ---- what its calls ask
@@ -196,3 +200,63 @@ returns-in-Err-install-clause-over g c told job own =
     (job_ended c.carry_out.new.self c.install.new.self (λ l h. install_ruling l h way.planned made)
     (install_entry way.planned made) (install_outcome (Err fail)) (install_ends way.planned made fail left.1)
     (c.in-Err-install.ensures.steps told_made way.planned way.own)) job left.0)
+
+-- ---- why it was refused
+
+pub returns-in_err-job-clause-refused : goal.returns-in_err-job-clause-refused
+returns-in_err-job-clause-refused g c told =
+    unplanned (NeverFails g.D.Watched.faults g.D.Reader.Reader.faults g.D.Writer.Writer.faults) g.D.Writer.Writer
+    g.D.Held.HeldFile.bytes (λ r. g.D.Reader.Reader.faults r) c.args.self.now c.plan.new.self c.from_residual.result
+    c.from_residual.ensures.1
+
+pub returns-in-Err-clause-refused : goal.returns-in-Err-clause-refused
+returns-in-Err-clause-refused g c told =
+    let bytes = g.D.Held.HeldFile.bytes in
+    let sure = NeverFails g.D.Watched.faults g.D.Reader.Reader.faults g.D.Writer.Writer.faults in
+    let s = c.in_ok-job.ensures.steps told in
+    let u = c.args.self.now in
+    let v = c.plan.new.self in
+    let fits = HasMerge g.D.Writer.Writer bytes in
+    let some = planned_some fits c.in-Some.job s.0 (subst (λ (o : Option _). AreBoth fits o s.0) c.in-Some.is s.2) in
+    let step = subst (λ (p : Option Job). Stepped sure u v (λ l h. plan_ruling l h) plan_entry (Answered p)) some.1
+    (subst (λ (o : Option _). Stepped sure u v (λ l h. plan_ruling l h) plan_entry (plan_outcome {E = NoMemory} s.0 (Ok o)))
+    c.in-Some.is s.1) in
+    unmade sure g.D.Writer.Writer bytes (λ r. g.D.Reader.Reader.faults r) u v c.carry_out.new.self c.abandon.new.self c.in-Some.job
+    c.carry_out.new.job.after c.plan.ensures.on c.carry_out.ensures.on c.abandon.ensures.on
+    (record {
+      planned = some.0;
+      due = answered_in u v (λ l h. plan_ruling l h) plan_entry (Some some.0) step;
+      has = subst (λ (p : Option Job). AreBoth fits (Some c.in-Some.job) p) some.1
+          (subst (λ (o : Option _). AreBoth fits o s.0) c.in-Some.is s.2);
+      looks = c.in_ok-job.ensures.looks told c.in-Some.job c.in-Some.is;
+    })
+    c.in-Err.fail (c.in-Err.ensures.refused (c.plan.ensures.on.tells ∙ told))
+
+pub returns-in-Err-install-clause-refused : goal.returns-in-Err-install-clause-refused
+returns-in-Err-install-clause-refused g c told =
+    let bytes = g.D.Held.HeldFile.bytes in
+    let sure = NeverFails g.D.Watched.faults g.D.Reader.Reader.faults g.D.Writer.Writer.faults in
+    let s = c.in_ok-job.ensures.steps told in
+    let u = c.args.self.now in
+    let v = c.plan.new.self in
+    let m = c.carry_out.new.self in
+    let fits = HasMerge g.D.Writer.Writer bytes in
+    let some = planned_some fits c.in-Some.job s.0 (subst (λ (o : Option _). AreBoth fits o s.0) c.in-Some.is s.2) in
+    let step = subst (λ (p : Option Job). Stepped sure u v (λ l h. plan_ruling l h) plan_entry (Answered p)) some.1
+    (subst (λ (o : Option _). Stepped sure u v (λ l h. plan_ruling l h) plan_entry (plan_outcome {E = NoMemory} s.0 (Ok o)))
+    c.in-Some.is s.1) in
+    let told_then = c.plan.ensures.on.tells ∙ told in
+    let handed = c.in_default-carry_out.ensures.handed in
+    let same = same_own m handed.under_way.planned some.0 handed.under_way.own
+    (own_stays v m some.0 c.carry_out.ensures.on.session (c.carry_out.ensures.changes told_then)
+    (planned_own u v some.0 c.plan.ensures.on.session step)) in
+    let ruled = λ (l : Layout) (h : History). (plan_ruling l h).answer in
+    unput sure g.D.Writer.Writer bytes (λ r. g.D.Reader.Reader.faults r) u m c.install.new.self c.abandoned.new.self
+    handed.under_way.planned (made_of c.carry_out.new.job handed.under_way.planned)
+    (on_and_on u v m c.plan.ensures.on c.carry_out.ensures.on) c.install.ensures.on c.abandoned.ensures.on
+    (wider (λ l h. ruled l h ≡ Some handed.under_way.planned) u u v m (goes_nowhere u) c.carry_out.ensures.on
+    (subst (λ (j : Job). Between u v (λ l h. ruled l h ≡ Some j)) (sym same)
+    (answered_in u v (λ l h. plan_ruling l h) plan_entry (Some some.0) step)))
+    c.in-Err-install.fail
+    (c.in-Err-install.ensures.steps (c.carry_out.ensures.on.tells ∙ told_then) handed.under_way.planned handed.under_way.own)
+    c.abandoned.result c.abandoned.ensures.refusal

@@ -1,4 +1,4 @@
-use Rattle.std.proofs.Common.{[], is_some, refl}
+use Rattle.std.proofs.Common.{[], ap, is_some, refl}
 use Rattle.std.specs.FinMap.{empty}
 use Rattle.vl_disk.specs.DiskState.{empty_disk}
 use Rattle.vlstore.specs.Lists.{history_by}
@@ -22,3 +22,6 @@ returns-in-Ok-clause-stands g c =
     (c.in-Ok.ensures.fits empty_disk empty finds_nothing h c.requires.empty bare_read shown_first)
     (c.in-Ok.ensures.collects empty_disk empty finds_nothing h c.requires.empty bare_read shown_first)
     (c.in-Ok.ensures.removes empty_disk empty finds_nothing h c.requires.empty bare_read shown_first))
+
+pub returns-in-Ok-clause-tells : goal.returns-in-Ok-clause-tells
+returns-in-Ok-clause-tells g c = ap is_some (c.in-Ok.ensures.tells empty_disk c.requires.empty).1
