@@ -1,5 +1,5 @@
-//! The program: the command line over the process's words and streams, and over the folder that they name. Its stored run reads
-//! what an earlier run committed, goes on, and ends with status 1 at a bad line.
+//! The program: the command line over the process's words and streams, and over the folder that they name. Its stored run makes
+//! a store in a new folder: transactions, of which one meets a conflict, with flushes, merges, passes and sweeps between them.
 #![tactic(auto)]
 
 mod clients;
