@@ -66,7 +66,7 @@ const SECOND: &str = "view v\nget v 62\n";
 const PASS: &str = "pick g 1\nbatch g\n";
 
 /// Its longer value.
-const LONG: &str =
+pub const LONG: &str =
     "aaaaaaaaaaaaaaaaaaaaaaaaaaaaaaaaaaaaaaaaaaaaaaaaaaaaaaaaaaaaaaaaaaaaaaaaaaaaaaaaaaaaaaaaaaaaaaaaaaaaaaaaaaaaaaaaaaaaaaaaaaaaaaaaaa";
 
 /// What a view prints of it.
@@ -199,7 +199,7 @@ fn a_store_with_a_changed_file_says_where(rt: HostRuntime) -> Result<(), Fail> {
 }
 
 /// A value that is moved, its log and table, which go then, and what is flushed behind them. `A` stands for the value.
-const SWEPT: &str =
+pub const SWEPT: &str =
     "begin t\nset t 61 A\ncommit t\nrotate\nflush\npick g 1\nbatch g\nmove g\ndrop g\nsweep\ndrain j 1\n\
     install j\nsweep\nview v\nget v 61\nrotate\nflush\nview w\nget w 61\n";
 

@@ -18,12 +18,12 @@ const BEGINS: u64 = 100;
 const WAITED: u64 = 50;
 
 // What is entered. No value of it is made.
-struct Entry {
-    session: u64,
+pub(crate) struct Entry {
+    pub(crate) session: u64,
 }
 
 #[derive(Debug, Drop)]
-struct Nothing {}
+pub(crate) struct Nothing {}
 
 impl Standing for Nothing {
     type Entry = Entry;

@@ -1,0 +1,7 @@
+use Rattle.vl_turn.specs.Locks.{lock_name, lock_start}
+use Rattle.vl_turn.specs.Tokens.{IsTokenOf}
+use Rattle.vl_thread_tests.proofs.waking.go.Given as goal
+
+-- it stays a token of the lock
+abbrev pub invariant-loop-round : goal.invariant-loop-round
+invariant-loop-round g l = IsTokenOf (lock_name l.lock) (lock_start l.lock) l.token
