@@ -3,20 +3,4 @@
 #![tactic(auto)]
 
 #[cfg(test)]
-mod files;
-#[cfg(test)]
-mod hits;
-#[cfg(test)]
-mod lending;
-#[cfg(test)]
-mod many;
-#[cfg(test)]
-mod memory;
-#[cfg(test)]
-mod setting;
-#[cfg(test)]
-mod streams;
-#[cfg(test)]
-mod syncing;
-#[cfg(test)]
-mod theirs;
+mod tests;

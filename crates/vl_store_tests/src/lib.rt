@@ -3,16 +3,4 @@
 #![tactic(auto)]
 
 #[cfg(test)]
-mod halts;
-#[cfg(test)]
-mod large;
-#[cfg(test)]
-mod opening;
-#[cfg(test)]
-mod statistics;
-#[cfg(test)]
-mod stops;
-#[cfg(test)]
-mod stores;
-#[cfg(test)]
-mod tables;
+mod tests;

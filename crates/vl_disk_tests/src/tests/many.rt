@@ -1,4 +1,4 @@
-use crate::setting::{Folder, four_of, hold_four, made_disk, make_four, over};
+use crate::tests::setting::{Folder, four_of, hold_four, made_disk, make_four, over};
 use std::io::Read;
 use std::rt::Files;
 use std::test::Fail;

@@ -1,5 +1,5 @@
 // Folders that can't be synced: what rests on their sync must fail.
-use crate::setting::{inside, over};
+use crate::tests::setting::{inside, over};
 use std::alloc::Allocator;
 use std::fmt::Display;
 use std::fs::{File, Metadata, OpenOptions};

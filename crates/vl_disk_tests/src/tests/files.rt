@@ -1,4 +1,4 @@
-use crate::setting::{
+use crate::tests::setting::{
     Folder, LOG, TABLE, disk_over, four_of, has_bytes, has_only, has_two, hold_four, inside,
     is_long, made_disk, make_four, over, write,
 };

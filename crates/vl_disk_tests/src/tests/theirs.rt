@@ -1,5 +1,5 @@
 // What is there and isn't the store's.
-use crate::setting::{
+use crate::tests::setting::{
     Folder, LOG, TABLE, disk_over, has_bytes, has_only, inside, made_disk, make_four, over, write,
 };
 use std::fs;

@@ -2,7 +2,7 @@
 ghost use Rattle.std.specs.Prelude.{All, IfOk};
 ghost use Rattle.vl_disk.specs.Name.{IsNumbered};
 
-use crate::stores::{outcome_of, outcome_over, plain, started, store, with};
+use crate::tests::stores::{outcome_of, outcome_over, plain, started, store, with};
 use std::alloc::Global;
 use std::test::Fail;
 use vl_disk::Name;

@@ -2,7 +2,7 @@
 ghost use Rattle.std.specs.Prelude.{All, IfOk};
 ghost use Rattle.vl_disk.specs.Name.{IsNumbered};
 
-use crate::stores::{
+use crate::tests::stores::{
     Case, DAMAGED_MANIFEST, LAST_COMMIT_MANIFEST, LAST_LOG_MANIFEST, LAST_MANIFEST, LOG_BYTES,
     MANIFEST_BYTES, MOVED_LOG_BYTES, NEWER_MANIFEST, OLD_LOG, OLD_MANIFEST, OLD_SECOND_LOG,
     OLD_SECOND_MANIFEST, SECOND_LOG_BYTES, SECOND_LOG_HEADER, SECOND_MANIFEST_BYTES,

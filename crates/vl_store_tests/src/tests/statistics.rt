@@ -1,6 +1,6 @@
 //! What `stats` tells of logs, which a run keeps by what its steps change, against what an opening sums up from the files.
 
-use crate::stores::outcome_of;
+use crate::tests::stores::outcome_of;
 use std::alloc::Global;
 use std::test::Fail;
 use vl_disk::Name;

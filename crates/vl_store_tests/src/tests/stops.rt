@@ -1,9 +1,9 @@
 //! A value that is moved, its log and table, which then go, and what is flushed behind them: each call that changes the disk is
 //! the last one before a stop. What the stop leaves is opened, and stopped again.
 
-use crate::halts::holds;
-use crate::stores::outcome_of;
-use crate::tables::{LONG, SWEPT};
+use crate::tests::halts::holds;
+use crate::tests::stores::outcome_of;
+use crate::tests::tables::{LONG, SWEPT};
 use std::alloc::Global;
 use std::test::Fail;
 use vl_mem::{MemDisk, Outcome};

@@ -1,0 +1,9 @@
+mod files;
+mod hits;
+mod lending;
+mod many;
+mod memory;
+mod setting;
+mod streams;
+mod syncing;
+mod theirs;

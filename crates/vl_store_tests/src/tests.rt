@@ -1,0 +1,7 @@
+mod halts;
+mod large;
+mod opening;
+mod statistics;
+mod stops;
+mod stores;
+mod tables;
