@@ -102,37 +102,37 @@ pub look-returns-clause-back : goal.look-returns-clause-back
 look-returns-clause-back g t c is_met upward now =
     elim c.match-head.branch [
       | look-in-Unread+in_ok-entry+in-Next+in-Inline-1 w ↦ elim w.match-branch-2.branch [
-          | look-in-Some w' ↦ looked_some is_met _ _ _ _ _ _ w.in-Unread.is w.head-is (w.in_ok-entry.ensures.reaches is_met upward)
-              (w.next.ensures.back is_met upward) _ w'.t-16-is w'.in-Some.is
-              (subst (λ tree. StandsAt is_met c.match-head.head (StandsIn g.C.Cursor.stands_to is_met tree)) w.half-is now)
-          | look-in-None w' ↦ looked_none is_met _ _ _ _ _ _ w.in-Unread.is w.head-is (w.in_ok-entry.ensures.reaches is_met upward)
-              (w.next.ensures.back is_met upward) w'.t-16-is w'.in-None.is
-              (subst (λ tree. StandsAt is_met c.match-head.head (StandsIn g.C.Cursor.stands_to is_met tree)) w.half-is now)
-        ]
+        | look-in-Some w' ↦ looked_some is_met _ _ _ _ _ _ w.in-Unread.is w.head-is (w.in_ok-entry.ensures.reaches is_met upward)
+            (w.next.ensures.back is_met upward) _ w'.t-16-is w'.in-Some.is
+            (subst (λ tree. StandsAt is_met c.match-head.head (StandsIn g.C.Cursor.stands_to is_met tree)) w.half-is now)
+        | look-in-None w' ↦ looked_none is_met _ _ _ _ _ _ w.in-Unread.is w.head-is (w.in_ok-entry.ensures.reaches is_met upward)
+            (w.next.ensures.back is_met upward) w'.t-16-is w'.in-None.is
+            (subst (λ tree. StandsAt is_met c.match-head.head (StandsIn g.C.Cursor.stands_to is_met tree)) w.half-is now)
+      ]
       | look-in-Unread+in_ok-entry+in-Next+in-Logged-1 w ↦ elim w.match-branch-2.branch [
-          | look-in-Some w' ↦ looked_some is_met _ _ _ _ _ _ w.in-Unread.is w.head-is (w.in_ok-entry.ensures.reaches is_met upward)
-              (w.next.ensures.back is_met upward) _ w'.t-16-is w'.in-Some.is
-              (subst (λ tree. StandsAt is_met c.match-head.head (StandsIn g.C.Cursor.stands_to is_met tree)) w.half-is now)
-          | look-in-None w' ↦ looked_none is_met _ _ _ _ _ _ w.in-Unread.is w.head-is (w.in_ok-entry.ensures.reaches is_met upward)
-              (w.next.ensures.back is_met upward) w'.t-16-is w'.in-None.is
-              (subst (λ tree. StandsAt is_met c.match-head.head (StandsIn g.C.Cursor.stands_to is_met tree)) w.half-is now)
-        ]
+        | look-in-Some w' ↦ looked_some is_met _ _ _ _ _ _ w.in-Unread.is w.head-is (w.in_ok-entry.ensures.reaches is_met upward)
+            (w.next.ensures.back is_met upward) _ w'.t-16-is w'.in-Some.is
+            (subst (λ tree. StandsAt is_met c.match-head.head (StandsIn g.C.Cursor.stands_to is_met tree)) w.half-is now)
+        | look-in-None w' ↦ looked_none is_met _ _ _ _ _ _ w.in-Unread.is w.head-is (w.in_ok-entry.ensures.reaches is_met upward)
+            (w.next.ensures.back is_met upward) w'.t-16-is w'.in-None.is
+            (subst (λ tree. StandsAt is_met c.match-head.head (StandsIn g.C.Cursor.stands_to is_met tree)) w.half-is now)
+      ]
       | look-in-Unread+in_ok-entry+in-Next+in-Gone-1 w ↦ elim w.match-branch-2.branch [
-          | look-in-Some w' ↦ looked_some is_met _ _ _ _ _ _ w.in-Unread.is w.head-is (w.in_ok-entry.ensures.reaches is_met upward)
-              (w.next.ensures.back is_met upward) _ w'.t-16-is w'.in-Some.is
-              (subst (λ tree. StandsAt is_met c.match-head.head (StandsIn g.C.Cursor.stands_to is_met tree)) w.half-is now)
-          | look-in-None w' ↦ looked_none is_met _ _ _ _ _ _ w.in-Unread.is w.head-is (w.in_ok-entry.ensures.reaches is_met upward)
-              (w.next.ensures.back is_met upward) w'.t-16-is w'.in-None.is
-              (subst (λ tree. StandsAt is_met c.match-head.head (StandsIn g.C.Cursor.stands_to is_met tree)) w.half-is now)
-        ]
+        | look-in-Some w' ↦ looked_some is_met _ _ _ _ _ _ w.in-Unread.is w.head-is (w.in_ok-entry.ensures.reaches is_met upward)
+            (w.next.ensures.back is_met upward) _ w'.t-16-is w'.in-Some.is
+            (subst (λ tree. StandsAt is_met c.match-head.head (StandsIn g.C.Cursor.stands_to is_met tree)) w.half-is now)
+        | look-in-None w' ↦ looked_none is_met _ _ _ _ _ _ w.in-Unread.is w.head-is (w.in_ok-entry.ensures.reaches is_met upward)
+            (w.next.ensures.back is_met upward) w'.t-16-is w'.in-None.is
+            (subst (λ tree. StandsAt is_met c.match-head.head (StandsIn g.C.Cursor.stands_to is_met tree)) w.half-is now)
+      ]
       | look-in-Unread+in_ok-entry+in-Unread-1 w ↦ elim w.match-branch-2.branch [
-          | look-in-Some w' ↦ looked_some is_met _ _ _ _ _ _ w.in-Unread.is w.head-is (w.in_ok-entry.ensures.reaches is_met upward)
-              (w.next.ensures.back is_met upward) _ w'.t-16-is w'.in-Some.is
-              (subst (λ tree. StandsAt is_met c.match-head.head (StandsIn g.C.Cursor.stands_to is_met tree)) w.half-is now)
-          | look-in-None w' ↦ looked_none is_met _ _ _ _ _ _ w.in-Unread.is w.head-is (w.in_ok-entry.ensures.reaches is_met upward)
-              (w.next.ensures.back is_met upward) w'.t-16-is w'.in-None.is
-              (subst (λ tree. StandsAt is_met c.match-head.head (StandsIn g.C.Cursor.stands_to is_met tree)) w.half-is now)
-        ]
+        | look-in-Some w' ↦ looked_some is_met _ _ _ _ _ _ w.in-Unread.is w.head-is (w.in_ok-entry.ensures.reaches is_met upward)
+            (w.next.ensures.back is_met upward) _ w'.t-16-is w'.in-Some.is
+            (subst (λ tree. StandsAt is_met c.match-head.head (StandsIn g.C.Cursor.stands_to is_met tree)) w.half-is now)
+        | look-in-None w' ↦ looked_none is_met _ _ _ _ _ _ w.in-Unread.is w.head-is (w.in_ok-entry.ensures.reaches is_met upward)
+            (w.next.ensures.back is_met upward) w'.t-16-is w'.in-None.is
+            (subst (λ tree. StandsAt is_met c.match-head.head (StandsIn g.C.Cursor.stands_to is_met tree)) w.half-is now)
+      ]
       | look-in_default w ↦ subst (λ head. StandsAt is_met head (StandsIn g.C.Cursor.stands_to is_met c.args.half.now)) w.head-is
           (subst (λ tree. StandsAt is_met c.match-head.head (StandsIn g.C.Cursor.stands_to is_met tree)) w.half-is now)
     ]
