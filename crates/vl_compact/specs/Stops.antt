@@ -1,26 +1,23 @@
--- Where the reading of a merge's input stops.
-use Rattle.std.specs.declared.clone.Clone as Clone
-use Rattle.vl_disk.specs.declared.reader.HeldFile as HeldFile
-use Rattle.std.specs.Prelude.{◌≡◌, ℕ, true, Option, Some, List, ◌∷◌, ◌++◌}
+-- Where the reading of a merge's inputs stops, and up to where they were read whole.
+use Rattle.std.specs.Prelude.{◌≡◌, ℕ, Bool, true, Option, Some, List, [], ◌∷◌, ◌++◌}
 use Rattle.std.specs.List.{AllByRecursion, slice_get}
 use Rattle.std.specs.Option.{ForSome}
 use Rattle.vl_compact.specs.laws.BehindLaws.{span_behind}
-use Rattle.vl_disk.specs.declared.name.Name.{Name}
 use Rattle.vl_disk.specs.declared.name.Name.TheVariants.{Table as table_name}
 use Rattle.vl_disk.specs.declared.read_fault.ReadFault.{ReadFault}
 use Rattle.vl_disk.specs.declared.read_fault.ReadFault.TheVariants.{NoMemory, Disk, Damaged}
 use Rattle.vl_model.specs.declared.entry.Entry.{Entry}
 use Rattle.vl_model.specs.declared.span.Span.{Span}
-use Rattle.vl_table.specs.CursorLeft.{unread}
-use Rattle.vl_table.specs.CursorParts.{AllStand, Block, IsFirstBad, MayFailOn, index_of, rise_over}
+use Rattle.vl_model.specs.declared.way.Way.TheVariants.{Up}
+use Rattle.vl_table.specs.CursorParts.{index_of}
 use Rattle.vl_table.specs.Kept.{NoBlock, StandsBlock}
+use Rattle.vl_table.specs.ReadTo.{TablesReadTo}
 use Rattle.vl_table.specs.Seeks.{IsBadBlock}
 use Rattle.vl_table.specs.SpanBlocks.{blocks_in, rises_over}
 use Rattle.vl_table.specs.Stretches.{stretch_of}
 use Rattle.vl_table.specs.Tables.{number_of, shape_of}
 use Rattle.vl_table.specs.declared.body.index.BlockPlace.{BlockPlace}
 use Rattle.vl_table.specs.declared.body.shape.TableShape.{TableShape}
-use Rattle.vl_table.specs.declared.cursor.TableCursor.{TableCursor}
 use Rattle.vl_table.specs.declared.table.Table.{Table}
 
 -- Of the blocks that may have keys of the interval each before this place stands, and the one at the place doesn't, where the
@@ -49,19 +46,7 @@ module _ {H : Type 0} (bytes_of : H → Option (List ℕ)) where
   MayStopIn after ts (Damaged name place) = (i : ℕ) × (t : Table H) × (slice_get ts i ≡ Some t) × (name ≡ table_name (number_of t))
       × StopsAt after t place
 
-  -- ---- a cursor
-
-  -- the first of these blocks stand, up to the one at the place of the named table, which doesn't
-  pub record ReadsUpTo (bs : List (Block H)) (name : Name) (place : ℕ) : Type 0 where
-    pub read : List (Block H)
-    pub rest : List (Block H)
-    pub parts : bs ≡ read ++ rest
-    pub stood : AllStand bytes_of read
-    pub bad : IsFirstBad bytes_of rest name place
-
-  -- What a fault of a cursor may be: one on its tables; and where it says that one is damaged, all blocks before that stand.
-  abbrev pub MayStop : {R : Type 0} {g : HeldFile.Ghosts H} {k : Clone.Ghosts H} → TableCursor H R g k → ReadFault → Type 0
-  MayStop c NoMemory = Unit {0}
-  MayStop c (Disk name) = MayFailOn bytes_of c.tables.items (Disk name)
-  MayStop c (Damaged name place) = MayFailOn bytes_of c.tables.items (Damaged name place)
-      × (rise_over c.span c.tables.items ≡ true → ReadsUpTo (unread c) name place)
+  -- Of each of these tables the blocks that may have keys behind this one stand, up to one that has an entry of this kind, or all
+  -- of them do, where its index rises.
+  abbrev pub InputsReadTo : (after : Option (List ℕ)) → (Entry → Bool) → List (Table H) → Type 0
+  InputsReadTo after is_met ts = AllByRecursion (λ t. TablesReadTo bytes_of (span_behind after) Up is_met (t ∷ [])) ts

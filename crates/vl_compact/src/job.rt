@@ -7,7 +7,6 @@ use crate::Inputs;
 use crate::append::append_reserved;
 use crate::files::{Lent, Synced};
 use crate::fill::{Filled, fill};
-use crate::input_cursor::InputCursor;
 use crate::job_reader::JobReader;
 use crate::keeping::Keeping;
 use crate::merge::merged;
@@ -18,6 +17,7 @@ use std::alloc::{AllocError, Global};
 use vl_disk::{HeldFile, ReadFault, Reader, Writer};
 use vl_merge::{Merge, Sources};
 use vl_model::{Cursor, Key};
+use vl_table::TableCursor;
 
 /// A merge of tables that is under way.
 #[derive(Drop)]
@@ -174,7 +174,7 @@ impl<V: Sources, H: HeldFile, W: Writer> Job<V, H, W> {
 }
 
 impl<V: Sources<Fault = ReadFault>, H: HeldFile, W: Writer> Job<V, H, W> {
-    ghost use Rattle.std.specs.Prelude.{◌≡◌, ◌<◌, ◌≤◌, ◌+◌, ◌++◌, List, None, Some, map, true, false, vec_capacity};
+    ghost use Rattle.std.specs.Prelude.{◌≡◌, ◌<◌, ◌≤◌, ◌+◌, ◌++◌, Bool, List, None, Some, map, true, false, vec_capacity};
     ghost use Rattle.std.specs.Prelude.{vec_len, IfErr, IfOk, IsSome, OnErr, OnOk};
     ghost use Rattle.std.specs.List.{flat_map};
     ghost use Rattle.vl_compact.specs.Filling.{FailsFilling, Fills};
@@ -188,7 +188,9 @@ impl<V: Sources<Fault = ReadFault>, H: HeldFile, W: Writer> Job<V, H, W> {
     ghost use Rattle.vl_engine_model.specs.declared.table.Table as laid_table;
     ghost use Rattle.vl_model.specs.Merging.{merged};
     ghost use Rattle.vl_model.specs.declared.way.Way.TheVariants.{Up};
-    ghost use Rattle.vl_compact.specs.Stops.{MayStopIn};
+    ghost use Rattle.vl_compact.specs.Stops.{InputsReadTo, MayStopIn};
+    ghost use Rattle.vl_merge.specs.Standing.{IsUpward};
+    ghost use Rattle.vl_model.specs.declared.entry.Entry.{Entry};
     ghost use Rattle.vl_table.specs.CursorParts.{is_disk_fault};
     ghost use Rattle.vl_table.specs.Tables.{number_of};
     ghost use Rattle.vl_disk.specs.declared.read_fault.ReadFault.{ReadFault};
@@ -216,6 +218,9 @@ impl<V: Sources<Fault = ReadFault>, H: HeldFile, W: Writer> Job<V, H, W> {
             (MayWhere (V.fits self.old.base reader.old.looks) (V.may_fail self.old.base)) is_disk_fault
             (MayStopIn H.bytes self.old.after self.old.inputs.tables.items)
             (counts (λ l. V.faults l) (λ r. R.faults r) reader.old reader.new)) }
+        // Where it ends here, each block of its inputs that may have keys behind the last key made was read, and stood.
+        ensures whole { IfOk result (λ more. more ≡ false → self.old.ended ≡ false
+            → InputsReadTo H.bytes self.old.after (λ _. false) self.old.inputs.tables.items) }
     {
         if self.ended {
             self.waits = false;
@@ -325,16 +330,19 @@ impl<V: Sources<Fault = ReadFault>, H: HeldFile, W: Writer> Job<V, H, W> {
     fn keeping<R: Reader<Held = H> + Drop>(
         &self,
         alloc: Global,
-    ) -> Result<Keeping<Merge<InputCursor<H, R>>>, AllocError>
+    ) -> Result<Keeping<Merge<TableCursor<H, R>>>, AllocError>
         ensures inputs { IfOk result (λ k. k.rules.inputs.items ≡ map number_of self.now.inputs.tables.items) }
         ensures floor { IfOk result (λ k. k.rules.floor ≡ self.now.floor) }
         ensures keep { IfOk result (λ k. k.rules.keep ≡ self.now.keep) }
         ensures first { IfOk result (λ k. k.last ≡ None) }
         ensures left { (ts : List laid_table.Table) → AreTablesOf H.bytes self.now.inputs.tables.items ts
-            → IfOk result (λ k. ⟦<Merge<InputCursor<H, R>> as Cursor>⟧.left k.cursor
+            → IfOk result (λ k. ⟦<Merge<TableCursor<H, R>> as Cursor>⟧.left k.cursor
             ≡ Some (merged Up (behind self.now.after (flat_map table_entries ts)))) }
         ensures may_fail { IfOk result (λ k. (fault : ReadFault)
-            → ⟦<Merge<InputCursor<H, R>> as Cursor>⟧.may_fail k.cursor fault → MayStopIn H.bytes self.now.after self.now.inputs.tables.items fault) }
+            → ⟦<Merge<TableCursor<H, R>> as Cursor>⟧.may_fail k.cursor fault → MayStopIn H.bytes self.now.after self.now.inputs.tables.items fault) }
+        ensures stands { IfOk result (λ k. (is_met : Entry → Bool) → IsUpward Up is_met
+            → ⟦<Merge<TableCursor<H, R>> as Cursor>⟧.stands_to k.cursor is_met
+            → InputsReadTo H.bytes self.now.after is_met self.now.inputs.tables.items) }
     {
         let rules = Rules {
             inputs: numbers_of(alloc, &self.inputs.tables)?,

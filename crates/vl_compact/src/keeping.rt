@@ -1,11 +1,12 @@
 //! What a merge still keeps of its inputs, one by one.
 
-ghost use Rattle.std.specs.Prelude.{◌≡◌, ◌≤◌, ◌<◌, ◌++◌, if◌then◌else◌, List, Some, IfErr, IfOk, IsSome, OnOk};
+ghost use Rattle.std.specs.Prelude.{◌≡◌, ◌≤◌, ◌<◌, ◌++◌, if◌then◌else◌, Bool, List, Some, IfErr, IfOk, IsSome, OnOk};
 ghost use Rattle.std.specs.Ordering.{eq_by_cmp};
 ghost use Rattle.vl_compact.specs.Keeps.{AreRulesOf, GivesNext, Passes, is_kept, noted, place_in, stage};
 ghost use Rattle.vl_compact.specs.Reading.{FailsLooking, FailsReading, MayWhere, NoneRose, counts};
 ghost use Rattle.vl_compact.specs.Walking.{comes_again, seen_before};
 ghost use Rattle.vl_engine_model.specs.declared.job.Job as laid;
+ghost use Rattle.vl_model.specs.Cursors.{IsReached};
 ghost use Rattle.vl_model.specs.Keys.{key_cmp};
 ghost use Rattle.vl_model.specs.declared.entry.Entry.{Entry};
 ghost use Rattle.vl_disk.specs.declared.read_fault.ReadFault.{ReadFault};
@@ -44,6 +45,9 @@ impl<C: Cursor<Fault = ReadFault>> Keeping<C> {
             (MayWhere (V.fits base.now reader.old.looks) (V.may_fail base.now)) (λ f. C.is_read_fault f) (C.may_fail self.old.cursor)
             (counts (λ l. V.faults l) (λ r. C.faults r) reader.old reader.new)) }
         ensures keeps { (fault : ReadFault) → C.may_fail self.new.cursor fault → C.may_fail self.old.cursor fault }
+        ensures reaches { (is_met : Entry → Bool)
+            → IfOk result (λ next. IsReached is_met next → C.stands_to self.old.cursor is_met) }
+        ensures back { (is_met : Entry → Bool) → C.stands_to self.new.cursor is_met → C.stands_to self.old.cursor is_met }
         ensures spends { C.budget self.new.cursor ≤ C.budget self.old.cursor }
         ensures fewer { IfOk result (λ next. IsSome next → C.budget self.new.cursor < C.budget self.old.cursor) }
     {

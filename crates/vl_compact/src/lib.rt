@@ -18,7 +18,6 @@ mod choice;
 mod due;
 mod files;
 mod fill;
-mod input_cursor;
 mod inputs;
 mod job;
 mod job_reader;

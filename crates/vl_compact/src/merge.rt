@@ -1,22 +1,23 @@
 //! The entries of a merge's inputs that are behind a key, merged.
 
-ghost use Rattle.std.specs.Prelude.{◌≡◌, ◌++◌, ◌∷◌, [], List, Some, IfOk};
-ghost use Rattle.std.specs.List.{AllZip, flat_map};
+ghost use Rattle.std.specs.Prelude.{◌≡◌, ◌++◌, ◌∷◌, [], Bool, List, Some, IfOk};
+ghost use Rattle.std.specs.List.{AllByRecursion, AllZip, flat_map};
 ghost use Rattle.vl_compact.specs.Keys.{behind};
 ghost use Rattle.vl_compact.specs.Laid.{AreTablesOf, IsTableOf};
 ghost use Rattle.vl_compact.specs.Lefts.{HasBehind};
-ghost use Rattle.vl_compact.specs.Stops.{MayStopIn};
+ghost use Rattle.vl_compact.specs.Stops.{InputsReadTo, MayStopIn};
 ghost use Rattle.vl_compact.specs.laws.BehindLaws.{span_behind};
 ghost use Rattle.vl_engine_model.specs.Sources.{table_entries};
 ghost use Rattle.vl_engine_model.specs.declared.table.Table as laid;
 ghost use Rattle.vl_merge.specs.MergeOf.{OneMayFail};
+ghost use Rattle.vl_merge.specs.Standing.{IsUpward};
 ghost use Rattle.vl_model.specs.Merging.{merged};
 ghost use Rattle.vl_model.specs.declared.entry.Entry.{Entry};
 ghost use Rattle.vl_model.specs.declared.way.Way.TheVariants.{Up};
+ghost use Rattle.vl_table.specs.ReadTo.{TablesReadTo};
 ghost use Rattle.vl_table.specs.Tables.{IsOf};
 ghost use Rattle.vl_disk.specs.declared.read_fault.ReadFault.{ReadFault};
 
-use crate::input_cursor::InputCursor;
 use std::alloc::{AllocError, Global};
 use vl_disk::{HeldFile, ReadFault, Reader};
 use vl_merge::{Merge, merge_of_told_sources};
@@ -28,12 +29,14 @@ pub fn merged<H: HeldFile, R: Reader<Held = H> + Drop>(
     alloc: Global,
     tables: &[Table<H>],
     after: &Option<Key>,
-) -> Result<Merge<InputCursor<H, R>>, AllocError>
+) -> Result<Merge<TableCursor<H, R>>, AllocError>
     ensures left { (ts : List laid.Table) → AreTablesOf H.bytes tables.now ts
-        → IfOk result (λ m. ⟦<Merge<InputCursor<H, R>> as Cursor>⟧.left m
+        → IfOk result (λ m. ⟦<Merge<TableCursor<H, R>> as Cursor>⟧.left m
         ≡ Some (merged Up (behind after.now (flat_map table_entries ts)))) }
     ensures may_fail { IfOk result (λ m. (fault : ReadFault)
-        → ⟦<Merge<InputCursor<H, R>> as Cursor>⟧.may_fail m fault → MayStopIn H.bytes after.now tables.now fault) }
+        → ⟦<Merge<TableCursor<H, R>> as Cursor>⟧.may_fail m fault → MayStopIn H.bytes after.now tables.now fault) }
+    ensures stands { IfOk result (λ m. (is_met : Entry → Bool) → IsUpward Up is_met
+        → ⟦<Merge<TableCursor<H, R>> as Cursor>⟧.stands_to m is_met → InputsReadTo H.bytes after.now is_met tables.now) }
 {
     merge_of_told_sources();
     Merge::new(cursors(alloc, tables, after)?, Way::Up)
@@ -44,11 +47,14 @@ fn cursors<H: HeldFile, R: Reader<Held = H> + Drop>(
     alloc: Global,
     tables: &[Table<H>],
     after: &Option<Key>,
-) -> Result<Vec<InputCursor<H, R>>, AllocError>
+) -> Result<Vec<TableCursor<H, R>>, AllocError>
     ensures left { (ts : List laid.Table) → AreTablesOf H.bytes tables.now ts → IfOk result (λ cs.
-        AllZip (HasBehind (λ c. ⟦<InputCursor<H, R> as Cursor>⟧.left c) after.now) cs.items ts) }
+        AllZip (HasBehind (λ c. ⟦<TableCursor<H, R> as Cursor>⟧.left c) after.now) cs.items ts) }
     ensures may_fail { IfOk result (λ cs. (fault : ReadFault)
-        → OneMayFail (λ c f. ⟦<InputCursor<H, R> as Cursor>⟧.may_fail c f) cs.items fault → MayStopIn H.bytes after.now tables.now fault) }
+        → OneMayFail (λ c f. ⟦<TableCursor<H, R> as Cursor>⟧.may_fail c f) cs.items fault → MayStopIn H.bytes after.now tables.now fault) }
+    ensures stands { IfOk result (λ cs. (is_met : Entry → Bool)
+        → AllByRecursion (λ c. ⟦<TableCursor<H, R> as Cursor>⟧.stands_to c is_met) cs.items
+        → InputsReadTo H.bytes after.now is_met tables.now) }
 {
     let mut cursors = Vec::new(alloc);
     for table in tables {
@@ -62,16 +68,18 @@ fn cursor<H: HeldFile, R: Reader<Held = H> + Drop>(
     alloc: Global,
     table: &Table<H>,
     after: &Option<Key>,
-) -> Result<InputCursor<H, R>, AllocError>
+) -> Result<TableCursor<H, R>, AllocError>
     ensures left { (t : laid.Table) → IsTableOf H.bytes table.now t
-        → IfOk result (λ c. HasBehind (λ c. ⟦<InputCursor<H, R> as Cursor>⟧.left c) after.now c t) }
+        → IfOk result (λ c. HasBehind (λ c. ⟦<TableCursor<H, R> as Cursor>⟧.left c) after.now c t) }
     ensures may_fail { IfOk result (λ c. (fault : ReadFault)
-        → ⟦<InputCursor<H, R> as Cursor>⟧.may_fail c fault → MayStopIn H.bytes after.now (table.now ∷ []) fault) }
+        → ⟦<TableCursor<H, R> as Cursor>⟧.may_fail c fault → MayStopIn H.bytes after.now (table.now ∷ []) fault) }
+    ensures stands { IfOk result (λ c. (is_met : Entry → Bool) → ⟦<TableCursor<H, R> as Cursor>⟧.stands_to c is_met
+        → TablesReadTo H.bytes (span_behind after.now) Up is_met (table.now ∷ [])) }
 {
     let mut one = Vec::new(alloc);
     one.push(table.share()?)?;
     let cursor = TableCursor::new(alloc, one, span_behind(alloc, after)?, Way::Up)?;
-    Ok(InputCursor { cursor })
+    Ok(cursor)
 }
 
 // The keys behind a key, or all of them.

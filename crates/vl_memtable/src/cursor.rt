@@ -47,6 +47,8 @@ impl Cursor for RunCursor {
 
     ghost may_fail = { λ _ _. Unit {0} };
 
+    ghost stands_to = { λ _ _. Unit {0} };
+
     fn next(&mut self, _: &mut ()) -> Result<Option<Entry>, AllocError> {
         let entries = part(&self.run, self.first, self.end);
         if self.given >= entries.len() {

@@ -22,7 +22,7 @@ use Rattle.vl_merge.specs.declared.tree.Tree.{Tree, Nothing, Source, Two'}
 
 -- ---- merged part by part
 
-turned_way : (way : Way) (e f : Entry) → is_gt (way_cmp way e f) ≡ true → is_gt (way_cmp way f e) ≡ false
+pub turned_way : (way : Way) (e f : Entry) → is_gt (way_cmp way e f) ≡ true → is_gt (way_cmp way f e) ≡ false
 turned_way way e f is = ap is_gt ((way_total way).antisymm f e) ∙ not_after (way_cmp way e f) is
 
 -- two entries of which one comes behind the other may be placed one after the other either way

@@ -3,5 +3,6 @@ mod GroupLaws
 mod MergeLaws
 pub mod Orders
 pub mod Passing
+mod StandingLaws
 pub mod Steps
 mod TreeLaws

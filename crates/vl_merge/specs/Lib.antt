@@ -4,5 +4,6 @@ pub mod Held
 pub mod Marked
 pub mod MergeOf
 pub mod ReadAhead
+pub mod Standing
 pub mod Trees
 pub mod Visible

@@ -1,8 +1,10 @@
-ghost use Rattle.std.specs.Prelude.{◌≡◌, true, map, IfOk};
-ghost use Rattle.std.specs.List.{sum_by};
+ghost use Rattle.std.specs.Prelude.{◌≡◌, true, Bool, map, IfOk};
+ghost use Rattle.vl_model.specs.declared.entry.Entry.{Entry};
+ghost use Rattle.std.specs.List.{AllByRecursion, sum_by};
 ghost use Rattle.std.specs.Option.{ForSome};
 ghost use Rattle.vl_merge.specs.Grouped.{is_grouped};
 ghost use Rattle.vl_merge.specs.MergeOf.{OneMayFail, merge_of};
+ghost use Rattle.vl_merge.specs.Standing.{IsUpward, StandsIn};
 ghost use Rattle.vl_merge.specs.Trees.{MayFailIn, tree_left, tree_budget};
 
 use crate::build::build_tree;
@@ -33,6 +35,8 @@ impl<C: Cursor + Drop> Cursor for Merge<C> {
 
     ghost may_fail = { λ m f. MayFailIn (λ c f. C.may_fail c f) m.sources f };
 
+    ghost stands_to = { λ m f. IsUpward m.way f → StandsIn (λ c f. C.stands_to c f) f m.sources };
+
     fn next(&mut self, reader: &mut C::Reader) -> Result<Option<Entry>, C::Fault> {
         self.sources.next(self.way, reader)
     }
@@ -49,6 +53,10 @@ impl<C: Cursor + Drop> Merge<C> {
         // Its fault is one of its sources'.
         ensures may_fail { IfOk result (λ merge. (fault : C.Fault)
             → ⟦<Merge<C> as Cursor>⟧.may_fail merge fault → OneMayFail (λ c f. C.may_fail c f) sources.items fault) }
+
+        // What it goes over stands where that of each source does, up to its first entry of a kind that comes behind others.
+        ensures stands { IfOk result (λ merge. (is_met : Entry → Bool) → IsUpward way is_met
+            → ⟦<Merge<C> as Cursor>⟧.stands_to merge is_met → AllByRecursion (λ c. C.stands_to c is_met) sources.items) }
     {
         Ok(Merge {
             sources: build_tree(sources)?,

@@ -1,6 +1,8 @@
-ghost use Rattle.std.specs.Prelude.{◌≡◌, ◌≤◌, ◌⊎◌, OnOk, OnErr, IfOk, IfErr, MatchResult};
-ghost use Rattle.vl_model.specs.Cursors.{Gives, Keeps, Spends, IsCounted};
+ghost use Rattle.std.specs.Prelude.{◌≡◌, ◌≤◌, ◌⊎◌, Bool, OnOk, OnErr, IfOk, IfErr, MatchResult};
+ghost use Rattle.vl_model.specs.Cursors.{Gives, IsCounted, IsReached, Keeps, Spends};
+ghost use Rattle.vl_model.specs.declared.entry.Entry.{Entry};
 ghost use Rattle.vl_merge.specs.ReadAhead.{IsKnown};
+ghost use Rattle.vl_merge.specs.Standing.{BothStand, IsUpward, StandsAt, StandsIn};
 ghost use Rattle.vl_merge.specs.Trees.{MayFailIn, tree_left, tree_budget, half_left, half_budget, two_left, two_budget};
 
 use crate::lookahead::{Lookahead, takes_older};
@@ -31,6 +33,10 @@ impl<C: Cursor + Drop> Tree<C> {
         ensures may_fail { IfErr result (λ fault. MayFailIn (λ c f. C.may_fail c f) self.old fault) }
         ensures keeps { (fault : C.Fault) → MayFailIn (λ c f. C.may_fail c f) self.new fault
             → MayFailIn (λ c f. C.may_fail c f) self.old fault }
+        ensures reaches { (is_met : Entry → Bool) → IsUpward way is_met
+            → IfOk result (λ next. IsReached is_met next → StandsIn (λ c f. C.stands_to c f) is_met self.old) }
+        ensures back { (is_met : Entry → Bool) → IsUpward way is_met
+            → StandsIn (λ c f. C.stands_to c f) is_met self.new → StandsIn (λ c f. C.stands_to c f) is_met self.old }
     {
         match self {
             Tree::Nothing => Ok(None),
@@ -71,6 +77,11 @@ fn next_of_two<C: Cursor + Drop>(
         → MayFailIn (λ c f. C.may_fail c f) newer.old fault }
     ensures keeps_older { (fault : C.Fault) → MayFailIn (λ c f. C.may_fail c f) older.new fault
         → MayFailIn (λ c f. C.may_fail c f) older.old fault }
+    ensures reaches { (is_met : Entry → Bool) → IsUpward way is_met → IfOk result (λ next. IsReached is_met next
+        → BothStand (λ c f. C.stands_to c f) is_met newer.old first.old older.old second.old) }
+    ensures back { (is_met : Entry → Bool) → IsUpward way is_met
+        → BothStand (λ c f. C.stands_to c f) is_met newer.new first.new older.new second.new
+        → BothStand (λ c f. C.stands_to c f) is_met newer.old first.old older.old second.old }
 {
     look(newer, first, way, reader)?;
     look(older, second, way, reader)?;
@@ -99,6 +110,9 @@ fn look<C: Cursor + Drop>(
     ensures may_fail { IfErr result (λ fault. MayFailIn (λ c f. C.may_fail c f) half.old fault) }
     ensures keeps { (fault : C.Fault) → MayFailIn (λ c f. C.may_fail c f) half.new fault
         → MayFailIn (λ c f. C.may_fail c f) half.old fault }
+    ensures back { (is_met : Entry → Bool) → IsUpward way is_met
+        → StandsAt is_met head.new (StandsIn (λ c f. C.stands_to c f) is_met half.new)
+        → StandsAt is_met head.old (StandsIn (λ c f. C.stands_to c f) is_met half.old) }
 {
     if let Lookahead::Unread = head {
         *head = match half.next(way, reader)? {

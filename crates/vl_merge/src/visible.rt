@@ -1,6 +1,8 @@
-ghost use Rattle.std.specs.Prelude.{◌≡◌, ◌≤◌, OnErr, IfOk, IfErr, MatchResult};
+ghost use Rattle.std.specs.Prelude.{◌≡◌, ◌≤◌, ◌⊎◌, Bool, OnErr, IfOk, IfErr, MatchResult};
 ghost use Rattle.std.specs.Option.{option_map};
-ghost use Rattle.vl_model.specs.Cursors.{Gives, Keeps, Spends, IsCounted};
+ghost use Rattle.vl_model.specs.Cursors.{Gives, IsCounted, IsReached, Keeps, Spends};
+ghost use Rattle.vl_model.specs.declared.entry.Entry.{Entry};
+ghost use Rattle.vl_merge.specs.Standing.{IsMetBy};
 ghost use Rattle.vl_merge.specs.Held.{visible_left, held_budget};
 ghost use Rattle.vl_merge.specs.Visible.{visible};
 ghost use Rattle.vl_merge.specs.declared.hides.Hides.TheVariants.{Gone};
@@ -34,6 +36,8 @@ impl<C: Cursor + Drop> Cursor for Visible<C> {
 
     ghost may_fail = { λ v f. ⟦<Merge<C> as Cursor>⟧.may_fail v.merge f };
 
+    ghost stands_to = { λ v f. IsMetBy f v.held ⊎ ⟦<Merge<C> as Cursor>⟧.stands_to v.merge f };
+
     fn next(&mut self, reader: &mut C::Reader) -> Result<Option<Entry>, C::Fault> {
         next_visible(
             &mut self.merge,
@@ -53,6 +57,8 @@ impl<C: Cursor + Drop> Visible<C> {
         ensures budget { ⟦<Visible<C> as Cursor>⟧.budget result ≡ ⟦<Merge<C> as Cursor>⟧.budget merge }
         ensures may_fail { (fault : C.Fault) → ⟦<Visible<C> as Cursor>⟧.may_fail result fault
             → ⟦<Merge<C> as Cursor>⟧.may_fail merge fault }
+        ensures stands { (is_met : Entry → Bool) → ⟦<Visible<C> as Cursor>⟧.stands_to result is_met
+            → ⟦<Merge<C> as Cursor>⟧.stands_to merge is_met }
     {
         Self::with(merge, number, Hides::Gone)
     }
@@ -64,6 +70,8 @@ impl<C: Cursor + Drop> Visible<C> {
         ensures budget { ⟦<Visible<C> as Cursor>⟧.budget result ≡ ⟦<Merge<C> as Cursor>⟧.budget merge }
         ensures may_fail { (fault : C.Fault) → ⟦<Visible<C> as Cursor>⟧.may_fail result fault
             → ⟦<Merge<C> as Cursor>⟧.may_fail merge fault }
+        ensures stands { (is_met : Entry → Bool) → ⟦<Visible<C> as Cursor>⟧.stands_to result is_met
+            → ⟦<Merge<C> as Cursor>⟧.stands_to merge is_met }
     {
         merge.keys_stand_together();
         Visible {
@@ -94,6 +102,10 @@ fn next_visible<M: Cursor>(
         (λ fault. IsCounted (M.is_read_fault fault) (M.faults reader.old) (M.faults reader.new)) }
     ensures may_fail { IfErr result (λ fault. M.may_fail merge.old fault) }
     ensures keeps { (fault : M.Fault) → M.may_fail merge.new fault → M.may_fail merge.old fault }
+    ensures reaches { (is_met : Entry → Bool) → IfOk result (λ next. IsReached is_met next
+        → IsMetBy is_met held.old ⊎ M.stands_to merge.old is_met) }
+    ensures back { (is_met : Entry → Bool) → IsMetBy is_met held.new ⊎ M.stands_to merge.new is_met
+        → IsMetBy is_met held.old ⊎ M.stands_to merge.old is_met }
 {
     while let Some(entry) = merge.next(reader)? {
         let winner = pass(held, entry, number, hides);

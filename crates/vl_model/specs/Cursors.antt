@@ -18,6 +18,11 @@ abbrev pub Spends : ℕ → ℕ → Option Entry → Type 0
 Spends before now None = now ≤ before
 Spends before now (Some entry) = now < before
 
+-- what came is an entry of this kind, or the end
+abbrev pub IsReached : (Entry → Bool) → Option Entry → Type 0
+IsReached is_met None = Unit {0}
+IsReached is_met (Some entry) = is_met entry ≡ true
+
 -- a fault was counted between these two readings of one count; a count at its type's end counts as risen
 pub record HasRisen (before now : ℕ) : Type 0 where
   pub later : before ≤ now

@@ -1,6 +1,6 @@
 ghost use Rattle.std.specs.Prelude.{◌≡◌, ◌≤◌, ℕ, Bool, List, Option, IfOk, IfErr, OnErr, MatchResult};
 ghost use Rattle.vl_model.specs.declared.entry.Entry.{Entry};
-ghost use Rattle.vl_model.specs.Cursors.{Gives, Keeps, Spends, IsCounted};
+ghost use Rattle.vl_model.specs.Cursors.{Gives, IsCounted, IsReached, Keeps, Spends};
 
 use crate::Entry;
 
@@ -26,6 +26,10 @@ pub trait Cursor {
     /// What a fault of it may be.
     ghost may_fail: { Self → Self.Fault → Type 0 };
 
+    /// What it goes over before the first entry of a kind, or before its end where none of that kind is left, was read whole.
+    /// What is in memory alone always is.
+    ghost stands_to: { Self → (Entry → Bool) → Type 0 };
+
     /// The next entry; `None` where none is left. After a fault the same ones are left.
     fn next(&mut self, reader: &mut Self::Reader) -> Result<Option<Entry>, Self::Fault>
         ensures given { IfOk result (λ next. Gives (left self.old) (left self.new) next) }
@@ -39,5 +43,9 @@ pub trait Cursor {
         ensures may_fail { IfErr result (λ fault. may_fail self.old fault) }
 
         // What may fail afterwards might have failed before.
-        ensures keeps { (fault : Self.Fault) → may_fail self.new fault → may_fail self.old fault };
+        ensures keeps { (fault : Self.Fault) → may_fail self.new fault → may_fail self.old fault }
+
+        // It gives no entry, and no end, behind something that it passed over unread.
+        ensures reaches { (is_met : Entry → Bool) → IfOk result (λ next. IsReached is_met next → stands_to self.old is_met) }
+        ensures back { (is_met : Entry → Bool) → stands_to self.new is_met → stands_to self.old is_met };
 }

@@ -1,5 +1,5 @@
 -- What reads of a transaction or a view answer, and when they are refused.
-use Rattle.std.specs.Prelude.{◌≡◌, ℕ, List, [], Option, None, Some, Result, Ok, Err}
+use Rattle.std.specs.Prelude.{◌≡◌, ◌⊎◌, ℕ, List, [], Option, None, Some, Result, Ok, Err}
 use Rattle.std.specs.FinMap.{get}
 use Rattle.std.specs.Option.{option_map}
 use Rattle.vl_reads.specs.declared.fails.ReadFail.{ReadFail}
@@ -20,9 +20,10 @@ use Rattle.vl_txn.specs.declared.key_fail.KeyFail.{KeyFail}
 use Rattle.vl_txn.specs.declared.key_fail.KeyFail.TheVariants.{EmptyKey, KeyTooLong}
 use Rattle.vl_version.specs.Answers.{Fills, Gives}
 use Rattle.vl_version.specs.Gathered.{span_of}
-use Rattle.vl_version.specs.Naming.{IsScanFault}
+use Rattle.vl_version.specs.Naming.{IsLogFault, IsScanFault}
 use Rattle.vl_version.specs.Over.{LooksOver}
 use Rattle.vl_version.specs.Sources.{stored_in, tables_in}
+use Rattle.vl_version.specs.Whole.{LevelsStop}
 use Rattle.vl_disk.specs.declared.read_fault.ReadFault.{ReadFault as VersionFault}
 use Rattle.vl_disk.specs.declared.read_fault.ReadFault.TheVariants as failed
 use Rattle.vl_version.specs.declared.found.Found.{Found}
@@ -87,6 +88,11 @@ IfFails P (Err (why.Damaged name place)) = P (failed.Damaged name place)
 abbrev pub NamesScanned : {H T : Type 0} → (H → Option (List ℕ)) → Version H → (low high : List ℕ) → Result T ReadFail → Type 0
 NamesScanned bytes version low high result =
     IfFails (IsScanFault bytes (span_of low high) (tables_in version) version.behind.logs.items) result
+
+-- and where it is of a table, reading stopped there, behind blocks that stand
+abbrev pub StopsScanned : {H T : Type 0} → (H → Option (List ℕ)) → Version H → (low high : List ℕ) → Way → Result T ReadFail → Type 0
+StopsScanned bytes version low high way result = IfFails
+    (λ fault. LevelsStop bytes (span_of low high) way version.behind.levels fault ⊎ IsLogFault version.behind.logs.items fault) result
 
 -- damage was met
 abbrev pub MetDamage : {T : Type 0} → Result T ReadFail → Type 0

@@ -159,13 +159,18 @@ module _ {H : Type 0} where
     }),
   )
 
-  -- where that is damage it is the next one
+  -- and it is the next one
   pub stops_before : (bytes_of : H → Option (List ℕ)) (bs later : List (Block H)) (t : Table H) (s : TableShape)
       (held : H) (id : BlockId) (p : BlockPlace) (before now : ℕ)
       (good : List ℕ → Unit {0} → Type 0) (e : ReadFault) → bs ≡ (t, p) ∷ later → s ≡ shape_of t → held ≡ t.held → id ≡ id_of s p
       → Answers {T = Unit {0}} before now id.number (bytes_of held) good (IsMissing id) (Err e) → StopsBefore bytes_of bs e
   stops_before bytes_of bs later t s held id p before now good NoMemory first shape is named a = tt
-  stops_before bytes_of bs later t s held id p before now good (Disk name) first shape is named a = tt
+  stops_before bytes_of bs later t s held id p before now good (Disk name) first shape is named a = record {
+    block = (t, p);
+    later = later;
+    first = first;
+    named = a.named ∙ ap table_name (ap (λ (x : BlockId). x.number) named ∙ ap (λ (x : TableShape). x.number) shape);
+  }
   stops_before bytes_of bs later t s held id p before now good (Damaged name place) first shape is named a = record {
     block = (t, p);
     later = later;

@@ -23,6 +23,8 @@ mod SeekSteps
 mod SpanParts
 mod Stages
 pub mod StartSteps
+mod StandingSteps
+mod StoppingSteps
 mod StretchSteps
 mod TestedSteps
 mod TrueTables

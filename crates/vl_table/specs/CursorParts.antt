@@ -84,10 +84,17 @@ module _ {H : Type 0} where
       pub named : name ≡ table_name (number_of block.0)
       pub none : ForSome (bytes_of block.0.held) (λ bytes. NoBlock (shape_of block.0).format (number_of block.0) block.1 bytes place)
 
-    -- so it is where the fault is damage
+    -- the first of these blocks is one of the named table
+    pub record IsFirstOf (bs : List (Block H)) (name : Name) : Type 0 where
+      pub block : Block H
+      pub later : List (Block H)
+      pub first : bs ≡ block ∷ later
+      pub named : name ≡ table_name (number_of block.0)
+
+    -- reading fails at the first of these blocks: it is of the named table, and where the fault is damage, it doesn't stand
     abbrev pub StopsBefore : List (Block H) → ReadFault → Type 0
     StopsBefore bs NoMemory = Unit {0}
-    StopsBefore bs (Disk name) = Unit {0}
+    StopsBefore bs (Disk name) = IsFirstOf bs name
     StopsBefore bs (Damaged name place) = IsFirstBad bs name place
 
 -- whether reading failed

@@ -3,6 +3,7 @@ pub mod Begun
 pub mod BlockEntries
 pub mod CursorLeft
 pub mod CursorParts
+pub mod CursorStops
 pub mod Kept
 pub mod KeptBlocks
 pub mod MayHold
@@ -12,6 +13,7 @@ pub mod OpenBlocks
 pub mod Opening
 pub mod OpeningParts
 pub mod ReadAhead
+pub mod ReadTo
 pub mod Scans
 pub mod Seeks
 pub mod SpanBlocks

@@ -7,6 +7,7 @@ pub mod Lengths
 pub mod ListLaws
 pub mod Places
 pub mod RangeLaws
+pub mod SharedBlocks
 pub mod TablePlaces
 pub mod TrueBlocks
 pub mod WalkedLaws

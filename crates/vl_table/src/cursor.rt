@@ -38,10 +38,13 @@ pub struct TableCursor<H: HeldFile, R> {
 }
 
 impl<H: HeldFile, R: Reader<Held = H> + Drop> Cursor for TableCursor<H, R> {
-    ghost use Rattle.std.specs.Prelude.{◌≡◌, ◌≤◌, IfErr, IfNone, IfOk, MatchResult, OnErr, OnOk};
-    ghost use Rattle.vl_model.specs.Cursors.{Gives, IsCounted, Keeps, Spends};
+    ghost use Rattle.std.specs.Prelude.{◌≡◌, ◌≤◌, Bool, IfErr, IfNone, IfOk, MatchResult, OnErr, OnOk};
+    ghost use Rattle.vl_model.specs.declared.entry.Entry.{Entry};
+    ghost use Rattle.vl_model.specs.Cursors.{Gives, IsCounted, IsReached, Keeps, Spends};
     ghost use Rattle.vl_table.specs.CursorLeft.{EndsAt, GoesOn, HasRead, cursor_budget, cursor_left, unread};
-    ghost use Rattle.vl_table.specs.CursorParts.{MayFailOn, StopsBefore, is_disk_fault};
+    ghost use Rattle.vl_table.specs.CursorParts.{StopsBefore, is_disk_fault};
+    ghost use Rattle.vl_table.specs.CursorStops.{MayStop};
+    ghost use Rattle.vl_table.specs.ReadTo.{CursorStands};
     ghost use Rattle.vl_disk.specs.declared.read_fault.ReadFault.{ReadFault};
 
     type Fault = ReadFault;
@@ -56,7 +59,9 @@ impl<H: HeldFile, R: Reader<Held = H> + Drop> Cursor for TableCursor<H, R> {
 
     ghost is_read_fault = { λ fault. is_disk_fault fault };
 
-    ghost may_fail = { λ c fault. MayFailOn H.bytes c.tables.items fault };
+    ghost may_fail = { λ c fault. MayStop H.bytes c fault };
+
+    ghost stands_to = { λ c is_met. CursorStands H.bytes c is_met };
 
     fn next(&mut self, reader: &mut R) -> Result<Option<Entry>, ReadFault>
         // What each cursor promises.
@@ -66,9 +71,11 @@ impl<H: HeldFile, R: Reader<Held = H> + Drop> Cursor for TableCursor<H, R> {
             (λ _. cursor_budget self.new ≤ cursor_budget self.old) }
         ensures cause { MatchResult result (λ _. R.faults reader.new ≡ R.faults reader.old)
             (λ fault. IsCounted (is_disk_fault fault) (R.faults reader.old) (R.faults reader.new)) }
-        ensures may_fail { IfErr result (λ fault. MayFailOn H.bytes self.old.tables.items fault) }
-        ensures keeps { (fault : ReadFault) → MayFailOn H.bytes self.new.tables.items fault
-            → MayFailOn H.bytes self.old.tables.items fault }
+        ensures may_fail { IfErr result (λ fault. MayStop H.bytes self.old fault) }
+        ensures keeps { (fault : ReadFault) → MayStop H.bytes self.new fault → MayStop H.bytes self.old fault }
+        ensures reaches { (is_met : Entry → Bool)
+            → IfOk result (λ next. IsReached is_met next → CursorStands H.bytes self.old is_met) }
+        ensures back { (is_met : Entry → Bool) → CursorStands H.bytes self.new is_met → CursorStands H.bytes self.old is_met }
 
         // Each block that it read stood; where one doesn't, that is the next again. It ends only where all were read.
         ensures read { HasRead H.bytes self.old self.new }
@@ -88,7 +95,7 @@ impl<H: HeldFile, R: Reader<Held = H> + Drop> Cursor for TableCursor<H, R> {
 }
 
 impl<H: HeldFile, R: Reader<Held = H> + Drop> TableCursor<H, R> {
-    ghost use Rattle.std.specs.Prelude.{◌≡◌, ◌≤◌, ◌<◌, ◌-◌, ◌∷◌, [], List, Some, true};
+    ghost use Rattle.std.specs.Prelude.{◌≡◌, ◌≤◌, ◌<◌, ◌-◌, ◌∷◌, [], Bool, List, Some, true};
     ghost use Rattle.std.specs.Prelude.{IfErr, IfNone, IfOk, IfSome, IsFalse, IsTrue, MatchResult, OnErr, OnOk};
     ghost use Rattle.vl_model.specs.Cursors.{IsCounted};
     ghost use Rattle.vl_model.specs.declared.entry.Entry.{Entry};
@@ -99,6 +106,8 @@ impl<H: HeldFile, R: Reader<Held = H> + Drop> TableCursor<H, R> {
     ghost use Rattle.vl_table.specs.CursorParts.{MayFailOn, StopsBefore, is_disk_fault, rise_over};
     ghost use Rattle.vl_table.specs.Stretches.{IsNextOn};
     ghost use Rattle.vl_table.specs.OfTables.{AreOf};
+    ghost use Rattle.vl_table.specs.CursorStops.{MayStopOn};
+    ghost use Rattle.vl_table.specs.ReadTo.{TablesReadTo};
     ghost use Rattle.vl_disk.specs.declared.read_fault.ReadFault.{ReadFault};
 
     /// A cursor over the entries of these tables, as they stand in the list, whose keys are in an interval. It reads nothing
@@ -112,8 +121,12 @@ impl<H: HeldFile, R: Reader<Held = H> + Drop> TableCursor<H, R> {
         ensures left { (ess : List (List Entry)) → AreOf H.bytes tables.items ess
             → IfOk result (λ c. ⟦<TableCursor<H, R> as Cursor>⟧.left c ≡ Some (along way (within span (joined ess)))) }
         ensures may_fail { IfOk result (λ c. (fault : ReadFault)
-            → ⟦<TableCursor<H, R> as Cursor>⟧.may_fail c fault → MayFailOn H.bytes tables.items fault) }
+            → ⟦<TableCursor<H, R> as Cursor>⟧.may_fail c fault → MayStopOn H.bytes span way tables.items fault) }
         ensures begins { IfOk result (Begins tables.items span way) }
+
+        // Up to an entry that it gives, or its end, each block stands.
+        ensures stands { IfOk result (λ c. (is_met : Entry → Bool)
+            → ⟦<TableCursor<H, R> as Cursor>⟧.stands_to c is_met → TablesReadTo H.bytes span way is_met tables.items) }
     {
         let none = Stretch { first: 0, end: 0 };
         let end = tables.len();

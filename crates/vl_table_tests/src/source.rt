@@ -1,7 +1,7 @@
 //! Cursors over memory and over tables as one type, for a merge that holds both.
 
 ghost use Rattle.vl_table.specs.CursorParts.{is_disk_fault};
-ghost use Rattle.vl_table_tests.specs.Sources.{SourceMayFail, source_budget, source_left};
+ghost use Rattle.vl_table_tests.specs.Sources.{SourceMayFail, SourceStands, source_budget, source_left};
 
 use vl_disk::{HeldFile, ReadFault, Reader};
 use vl_memtable::RunCursor;
@@ -29,6 +29,8 @@ impl<H: HeldFile, R: Reader<Held = H> + Drop> Cursor for Source<H, R> {
     ghost is_read_fault = { λ fault. is_disk_fault fault };
 
     ghost may_fail = { λ s fault. SourceMayFail H.bytes s fault };
+
+    ghost stands_to = { λ s is_met. SourceStands H.bytes s is_met };
 
     fn next(&mut self, reader: &mut R) -> Result<Option<Entry>, ReadFault> {
         match self {

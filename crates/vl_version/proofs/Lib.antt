@@ -23,4 +23,5 @@ mod SharedLaws
 mod TableSources
 mod TakeLaws
 mod Telling
+mod WholeLaws
 mod Winning

@@ -15,6 +15,7 @@ use Rattle.vl_model.specs.declared.span.Span.{Span}
 use Rattle.vl_seglog.specs.Answers as log_answers
 use Rattle.vl_seglog.specs.declared.sealed.SealedLog.{SealedLog}
 use Rattle.vl_table.specs.CursorParts.{MayFailOn}
+use Rattle.vl_table.specs.CursorStops.{MayStop}
 use Rattle.vl_table.specs.MayHold.{meets}
 use Rattle.vl_table.specs.Seeks.{IsBadBlock}
 use Rattle.vl_table.specs.Tables.{AreSame, number_of, shape_of}
@@ -180,7 +181,7 @@ module _ {H : Type 0} (bytes_of : H → Option (List ℕ)) (span : Span) where
 
     pub adds_cursor_faults : (ts met : List (Table H)) (cursor : TableCursor H R g k) (old now : List (Source H R g k))
         → MeetFaults bytes_of span ts met
-        → ((why : ReadFault) → MayFailOn bytes_of cursor.tables.items why → MayFailOn bytes_of met why)
+        → ((why : ReadFault) → MayStop bytes_of cursor why → MayFailOn bytes_of met why)
         → now ≡ old ++ Tables cursor ∷ [] → AddFaults bytes_of span ts old now
     adds_cursor_faults ts met cursor old now meet fails joined before fail =
         subst (FailWithin bytes_of span (before ++ ts)) (sym joined)

@@ -17,6 +17,7 @@ use Rattle.vl_model.specs.declared.way.Way.{Way}
 use Rattle.vl_model.specs.EntryOrder.{along, within}
 use Rattle.vl_table.specs.CursorLeft.{cursor_left}
 use Rattle.vl_table.specs.CursorParts.{MayFailOn}
+use Rattle.vl_table.specs.CursorStops.{MayStop}
 use Rattle.vl_table.specs.MayHold.{meets}
 use Rattle.vl_table.specs.OfTables.{AreOf}
 use Rattle.vl_table.specs.Tables.{AreSame, IsOf, number_of, shape_of}
@@ -142,7 +143,7 @@ module _ {H : Type 0} (bytes_of : H → Option (List ℕ)) where
       (are : AreOf bytes_of ts tabled) (within_met : HaveWithin bytes_of span (joined tabled) met) where
     pub adds_cursor : (cursor : TableCursor H R g k) (old now : List (Source H R g k))
         → ((ess : List (List Entry)) → AreOf bytes_of met ess → cursor_left bytes_of cursor ≡ Some (along way (within span (joined ess))))
-        → ((why : ReadFault) → MayFailOn bytes_of cursor.tables.items why → MayFailOn bytes_of met why)
+        → ((why : ReadFault) → MayStop bytes_of cursor why → MayFailOn bytes_of met why)
         → now ≡ old ++ Tables cursor ∷ [] → Adds bytes_of span way (joined tabled) old now
     adds_cursor cursor old now left fails joined_is =
         adds_more bytes_of span way (joined tabled) old (Tables cursor ∷ []) now joined_is (record {

@@ -4,7 +4,7 @@ use Rattle.vl_disk.specs.declared.reader.HeldFile as HeldFile
 use Rattle.std.specs.Prelude.{◌≡◌, ℕ, Bool, true, false, List, length, Option, Some}
 use Rattle.vl_model.specs.declared.entry.Entry.{Entry}
 use Rattle.vl_table.specs.CursorLeft.{cursor_budget, cursor_left}
-use Rattle.vl_table.specs.CursorParts.{MayFailOn}
+use Rattle.vl_table.specs.CursorStops.{MayStop}
 use Rattle.vl_disk.specs.declared.read_fault.ReadFault.{ReadFault}
 use Rattle.vl_version.specs.Own.{own_left}
 use Rattle.vl_disk.specs.declared.read_fault.ReadFault.TheVariants.{NoMemory, Disk, Damaged}
@@ -34,4 +34,4 @@ module _ {H R : Type 0} {g : HeldFile.Ghosts H} {k : Clone.Ghosts H} where
   SourceMayFail bytes_of (Own cursor) fault = fault ≡ NoMemory
   SourceMayFail bytes_of (Held cursor) fault = fault ≡ NoMemory
   SourceMayFail bytes_of (Tables cursor) fault =
-      (why : ReadFault) × MayFailOn bytes_of cursor.tables.items why × (fault ≡ why)
+      (why : ReadFault) × MayStop bytes_of cursor why × (fault ≡ why)

@@ -22,5 +22,6 @@ pub mod Scans
 pub mod Shared
 pub mod Sources
 pub mod Values
+pub mod Whole
 -- Laws of these, which proofs of this crate and of others cite.
 pub mod laws

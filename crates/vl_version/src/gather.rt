@@ -1,7 +1,8 @@
 //! The sources of a scan, cut to its interval.
 
-ghost use Rattle.std.specs.Prelude.{◌≡◌, ◌++◌, [], List, map, IfOk, OnOk};
+ghost use Rattle.std.specs.Prelude.{◌≡◌, ◌++◌, [], Bool, List, map, IfOk, OnOk};
 ghost use Rattle.std.specs.FinMap.{entries};
+ghost use Rattle.vl_disk.specs.declared.read_fault.ReadFault.{ReadFault};
 ghost use Rattle.vl_model.specs.Cutting.{joined};
 ghost use Rattle.vl_model.specs.Reads.{bound};
 ghost use Rattle.vl_model.specs.declared.entry.Entry.{Entry};
@@ -12,6 +13,7 @@ ghost use Rattle.vl_version.specs.Gathered.{Adds, IsQuiet, TellWinners, span_of}
 ghost use Rattle.vl_version.specs.Naming.{FailWithin};
 ghost use Rattle.vl_version.specs.Own.{own_entries};
 ghost use Rattle.vl_version.specs.Sources.{held_entries};
+ghost use Rattle.vl_version.specs.Whole.{LevelsReadTo, LevelsStop, SourcesFail, SourcesStand};
 ghost use Rattle.vl_version.specs.declared.source.Source.TheVariants as source;
 ghost use Rattle.vl_version.specs.levels.LevelsLooked.{AreInOrder, tables_of};
 
@@ -46,6 +48,10 @@ pub fn sources_within<'a, H: HeldFile, R: Reader<Held = H> + Drop>(
     ensures quiet { IfOk result (λ sources. tables_of behind.now.levels ≡ [] → IsQuiet H.bytes sources.items) }
     ensures faults { IfOk result (λ sources.
         FailWithin H.bytes (span_of wanted.entry.low.now wanted.entry.high.now) (tables_of behind.now.levels) sources.items) }
+    ensures reads { IfOk result (λ sources. (is_met : Entry → Bool) → SourcesStand H.bytes is_met sources.items
+        → LevelsReadTo H.bytes (span_of wanted.entry.low.now wanted.entry.high.now) wanted.entry.way is_met behind.now.levels) }
+    ensures stops { IfOk result (λ sources. (fault : ReadFault) → SourcesFail H.bytes fault sources.items
+        → LevelsStop H.bytes (span_of wanted.entry.low.now wanted.entry.high.now) wanted.entry.way behind.now.levels fault) }
 {
     let span = span_of(alloc, wanted.low, wanted.high)?;
     let mut sources = own_source(alloc, own, wanted, number)?;

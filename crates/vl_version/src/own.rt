@@ -36,6 +36,8 @@ impl<'a> Cursor for OwnCursor<'a> {
 
     ghost may_fail = { λ _ _. Unit {0} };
 
+    ghost stands_to = { λ _ _. Unit {0} };
+
     fn next(&mut self, _: &mut ()) -> Result<Option<Entry>, AllocError> {
         let writes = self.writes;
         let split = match self.way {

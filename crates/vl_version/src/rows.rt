@@ -1,8 +1,9 @@
 //! The rows of a scan.
 
-ghost use Rattle.std.specs.Prelude.{◌≡◌, ◌⊎◌, List, Some, false, take, drop, IfErr, OnOk};
+ghost use Rattle.std.specs.Prelude.{◌≡◌, ◌<◌, ◌⊎◌, ◌∷◌, ◌++◌, [], ℕ, Bool, List, Some, true, false, take, drop, length, IfErr, IfOk, OnOk};
 ghost use Rattle.std.specs.List.{AllByRecursion};
 ghost use Rattle.vl_disk.specs.Faults.{HasCause};
+ghost use Rattle.vl_model.specs.Keys.{Stored};
 ghost use Rattle.vl_model.specs.declared.entry.Entry.{Entry};
 ghost use Rattle.vl_version.specs.Answers.{IsAnswer, IsAstray};
 ghost use Rattle.vl_version.specs.Faults.{Failed};
@@ -40,6 +41,11 @@ pub fn take_rows<H: HeldFile, R: Reader<Held = H>, C: Cursor<Fault = ReadFault, 
     ensures no_further { AreTold H.bytes logs.now → (left : List Entry) → C.left entries.old ≡ Some left → AllByRecursion IsKept left
         → OnOk result (C.left entries.new ≡ Some (drop limit left)) }
     ensures fault { IfErr result (λ fault. C.may_fail entries.old fault ⊎ IsLogFault logs.now fault) }
+
+    // The entries are read whole up to that of each row; and to their end where there are fewer rows.
+    ensures reaches { (is_met_by : List ℕ → Entry → Bool) → ((e : Entry) → is_met_by e.key e ≡ true)
+        → IfOk result (λ rows. AllByRecursion (λ row. C.stands_to entries.old (is_met_by row.0)) rows.items) }
+    ensures ends { (is_met : Entry → Bool) → IfOk result (λ rows. length rows.items < limit → C.stands_to entries.old is_met) }
 {
     let mut rows = Vec::new(alloc);
     'taking: while rows.len() < limit as usize {
@@ -65,6 +71,8 @@ fn push_row<H: HeldFile, R: Reader<Held = H>>(
         → IsAnswer (λ _. PushesRow (stored_in H.bytes logs.now) entry rows.old.items rows.new.items)
         (IsAstray (stored_in H.bytes logs.now) (Some entry)) result }
     ensures fault { IfErr result (IsLogFault logs.now) }
+    ensures pushes { OnOk result ((rows.new.items ≡ rows.old.items)
+        ⊎ ((value : Stored) × (rows.new.items ≡ rows.old.items ++ (entry.key, value) ∷ []))) }
 {
     let value = resolve(alloc, reader, logs, &entry)?;
     let Entry { key, .. } = entry;

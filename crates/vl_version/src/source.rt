@@ -17,6 +17,7 @@ pub enum Source<'a, H: HeldFile, R> {
 
 impl<'a, H: HeldFile, R: Reader<Held = H> + Drop> Cursor for Source<'a, H, R> {
     ghost use Rattle.vl_version.specs.Gives.{SourceMayFail, is_disk_fault, left_in, source_budget};
+    ghost use Rattle.vl_version.specs.Whole.{SourceStands};
 
     type Fault = ReadFault;
 
@@ -31,6 +32,8 @@ impl<'a, H: HeldFile, R: Reader<Held = H> + Drop> Cursor for Source<'a, H, R> {
     ghost is_read_fault = { λ fault. is_disk_fault fault };
 
     ghost may_fail = { λ source fault. SourceMayFail H.bytes source fault };
+
+    ghost stands_to = { λ source is_met. SourceStands H.bytes source is_met };
 
     fn next(&mut self, reader: &mut R) -> Result<Option<Entry>, ReadFault> {
         match self {

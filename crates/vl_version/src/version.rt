@@ -1,4 +1,4 @@
-ghost use Rattle.std.specs.Prelude.{◌≡◌, ◌++◌, ◌<◌, [], List, length, reverse, IfErr, IfOk, IsErrOf};
+ghost use Rattle.std.specs.Prelude.{◌≡◌, ◌⊎◌, ◌++◌, ◌<◌, [], List, length, reverse, IfErr, IfOk, IsErrOf};
 ghost use Rattle.vl_disk.specs.Faults.{HasCause};
 ghost use Rattle.vl_memtable.specs.Contents.{IsNewTo};
 ghost use Rattle.vl_memtable.specs.Lengths.{lengths_with};
@@ -11,11 +11,12 @@ ghost use Rattle.vl_table.specs.Kept.{Files};
 ghost use Rattle.vl_table.specs.KeptBlocks.{AreKept, ReadsOf};
 ghost use Rattle.vl_version.specs.Faults.{Failed};
 ghost use Rattle.vl_version.specs.Gathered.{span_of};
-ghost use Rattle.vl_version.specs.Naming.{IsKeyFault, IsScanFault};
+ghost use Rattle.vl_version.specs.Naming.{IsKeyFault, IsLogFault, IsScanFault};
 ghost use Rattle.vl_version.specs.Near.{AreNear};
 ghost use Rattle.vl_version.specs.Over.{LooksOver};
 ghost use Rattle.vl_version.specs.Scans.{AreScanned, SomeAstray};
 ghost use Rattle.vl_version.specs.Sources.{AreTold, HasEntries, in_memory, stored_in, tables_in};
+ghost use Rattle.vl_version.specs.Whole.{LevelsStop, ScansWhole};
 ghost use Rattle.vl_disk.specs.declared.read_fault.ReadFault.TheVariants as why;
 ghost use Rattle.vl_version.specs.levels.LevelsLooked.{AreLaidOut};
 
@@ -194,6 +195,14 @@ impl<H: HeldFile> Version<H> {
         // A fault is of a table whose range meets the interval, or of a log, also if the tables aren't true.
         ensures fault { IfErr result (IsScanFault H.bytes (span_of wanted.entry.low.now wanted.entry.high.now) (tables_in self.now)
             self.now.behind.logs.items) }
+
+        // So no damage is passed over: of each source what was gone over was read whole.
+        ensures whole { IfOk result (λ rows. ScansWhole H.bytes (span_of wanted.entry.low.now wanted.entry.high.now)
+            wanted.entry.way self.now.behind.levels wanted.entry.limit rows.items) }
+
+        // A fault is of the next block that was to be read, behind blocks that stand, or of a log.
+        ensures stops { IfErr result (λ fault. LevelsStop H.bytes (span_of wanted.entry.low.now wanted.entry.high.now)
+            wanted.entry.way self.now.behind.levels fault ⊎ IsLogFault self.now.behind.logs.items fault) }
     {
         merge_of_told_sources();
         visible_entries_are_the_winners();

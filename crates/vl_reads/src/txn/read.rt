@@ -4,9 +4,11 @@ ghost use Rattle.std.specs.Option.{option_map};
 ghost use Rattle.vl_disk.specs.Faults.{HasCause};
 ghost use Rattle.vl_reads.specs.Past.{AtFailed, IsAnsweredAt, IsRefusedAt, IsWithin, LooksBack, NamesAt, beginning};
 ghost use Rattle.vl_reads.specs.Reading.{IsOwn, IsRefusedBy, IsSound, LooksUp, LooksUpTagged};
+ghost use Rattle.vl_version.specs.Gathered.{span_of};
+ghost use Rattle.vl_version.specs.Whole.{ScansWhole};
 ghost use Rattle.vl_version.specs.LiesOver.{IsInMemory, LiesOver};
 ghost use Rattle.vl_reads.specs.Reading.{NamesScanned, NotesNothing, OnlyNotes, ReadFailed, refused_bounds, rows_under};
-ghost use Rattle.vl_reads.specs.Reading.{tagged_under, value_under, with_its_tag, written_value};
+ghost use Rattle.vl_reads.specs.Reading.{StopsScanned, tagged_under, value_under, with_its_tag, written_value};
 ghost use Rattle.vl_reads.specs.Sees.{Sees};
 ghost use Rattle.vl_engine_model.specs.AtAnswer.{at_answer};
 ghost use Rattle.vl_model.specs.History.{History, value_at};
@@ -112,6 +114,11 @@ impl<H: HeldFile, R: Reader<Held = H> + Drop> Txn<H, R> {
 
         // A fault is of a table whose range meets the interval, or of a log, also if the tables aren't true.
         ensures fault { NamesScanned H.bytes self.old.version low.now high.now result }
+        ensures stops { StopsScanned H.bytes self.old.version low.now high.now way result }
+
+        // Nor is any passed over: of each source what the rows were said over was read whole.
+        ensures whole { IfOk result (λ rows. ScansWhole H.bytes (span_of low.now high.now) way self.old.version.behind.levels
+            limit rows.items) }
         ensures blocks { (files : Files) → ReadsOf H.bytes files self.old.reader (tables_in self.old.version)
             → ReadsOf H.bytes files self.new.reader (tables_in self.new.version) }
     {

@@ -1,6 +1,6 @@
 //! The tables of a scan: those whose ranges meet its interval.
 
-ghost use Rattle.std.specs.Prelude.{◌≡◌, ◌++◌, ◌∷◌, [], List, IfOk, OnOk};
+ghost use Rattle.std.specs.Prelude.{◌≡◌, ◌⊎◌, ◌++◌, ◌∷◌, [], List, IfOk, OnOk};
 ghost use Rattle.vl_model.specs.Cutting.{joined};
 ghost use Rattle.vl_model.specs.declared.entry.Entry.{Entry};
 ghost use Rattle.vl_table.specs.OfTables.{AreOf};
@@ -8,6 +8,8 @@ ghost use Rattle.vl_table.specs.Tables.{IsOf};
 ghost use Rattle.vl_table.specs.declared.table.Table.{Table};
 ghost use Rattle.vl_version.specs.Gathered.{Adds, HaveWithin};
 ghost use Rattle.vl_version.specs.Naming.{AddFaults, MeetFaults};
+ghost use Rattle.vl_version.specs.Whole.{AddReads, AllReadTo, AreMet, EachReadTo, LevelsReadTo, MetReadTo};
+ghost use Rattle.vl_version.specs.Whole.{AddStops, EachStops, MetStop, OneStops};
 ghost use Rattle.vl_version.specs.levels.LevelTables.{AreAllApart, AreApart, all_tables};
 ghost use Rattle.vl_version.specs.levels.LevelsLooked.{AreInOrder, tables_of};
 
@@ -31,6 +33,11 @@ pub fn add_levels<'a, H: HeldFile, R: Reader<Held = H> + Drop>(
         → AreInOrder levels.now → Adds H.bytes span.now way (joined tabled) sources.old.items sources.new.items) }
     ensures quiet { OnOk result (tables_of levels.now ≡ [] → sources.new.items ≡ sources.old.items) }
     ensures faults { OnOk result (AddFaults H.bytes span.now (tables_of levels.now) sources.old.items sources.new.items) }
+    ensures reads { OnOk result (AddReads H.bytes (λ is_met. LevelsReadTo H.bytes span.now way is_met levels.now)
+        sources.old.items sources.new.items) }
+    ensures stops { OnOk result (AddStops H.bytes (λ fault. EachStops H.bytes span.now way fault levels.now.newest.items
+        ⊎ OneStops H.bytes span.now way fault levels.now.deeper.items)
+        sources.old.items sources.new.items) }
 {
     add_newest(alloc, sources, levels.newest(), span, way)?;
     add_deeper(alloc, sources, levels.deeper(), span, way)
@@ -48,6 +55,10 @@ fn add_newest<'a, H: HeldFile, R: Reader<Held = H> + Drop>(
         → Adds H.bytes span.now way (joined tabled) sources.old.items sources.new.items) }
     ensures quiet { OnOk result (tables.now ≡ [] → sources.new.items ≡ sources.old.items) }
     ensures faults { OnOk result (AddFaults H.bytes span.now tables.now sources.old.items sources.new.items) }
+    ensures reads { OnOk result (AddReads H.bytes (λ is_met. EachReadTo H.bytes span.now way is_met tables.now)
+        sources.old.items sources.new.items) }
+    ensures stops { OnOk result (AddStops H.bytes (λ fault. EachStops H.bytes span.now way fault tables.now)
+        sources.old.items sources.new.items) }
 {
     for at in 0..tables.len() {
         add_tables(alloc, sources, &tables[at..at + 1], span, way)?;
@@ -67,6 +78,10 @@ fn add_deeper<'a, H: HeldFile, R: Reader<Held = H> + Drop>(
         → AreAllApart levels.now → Adds H.bytes span.now way (joined tabled) sources.old.items sources.new.items) }
     ensures quiet { OnOk result (all_tables levels.now ≡ [] → sources.new.items ≡ sources.old.items) }
     ensures faults { OnOk result (AddFaults H.bytes span.now (all_tables levels.now) sources.old.items sources.new.items) }
+    ensures reads { OnOk result (AddReads H.bytes (λ is_met. AllReadTo H.bytes span.now way is_met levels.now)
+        sources.old.items sources.new.items) }
+    ensures stops { OnOk result (AddStops H.bytes (λ fault. OneStops H.bytes span.now way fault levels.now)
+        sources.old.items sources.new.items) }
 {
     for level in levels {
         add_tables(alloc, sources, level.as_slice(), span, way)?;
@@ -86,6 +101,10 @@ fn add_tables<'a, H: HeldFile, R: Reader<Held = H> + Drop>(
         → Adds H.bytes span.now way (joined tabled) sources.old.items sources.new.items) }
     ensures quiet { OnOk result (tables.now ≡ [] → sources.new.items ≡ sources.old.items) }
     ensures faults { OnOk result (AddFaults H.bytes span.now tables.now sources.old.items sources.new.items) }
+    ensures reads { OnOk result (AddReads H.bytes (λ is_met. MetReadTo H.bytes span.now way is_met tables.now)
+        sources.old.items sources.new.items) }
+    ensures stops { OnOk result (AddStops H.bytes (λ fault. MetStop H.bytes span.now way fault tables.now)
+        sources.old.items sources.new.items) }
 {
     let met = meeting(alloc, tables, span)?;
     if met.is_empty() {
@@ -106,6 +125,7 @@ fn meeting<H: HeldFile>(
         → HaveWithin H.bytes span.now (joined tabled) met.items) }
     ensures none { IfOk result (λ met. tables.now ≡ [] → met.items ≡ []) }
     ensures faults { IfOk result (λ met. MeetFaults H.bytes span.now tables.now met.items) }
+    ensures copies { IfOk result (λ met. AreMet H.bytes span.now tables.now met.items) }
 {
     let mut met = Vec::new(alloc);
     for table in tables {
@@ -124,6 +144,8 @@ fn add_if_met<H: HeldFile>(
         → HaveWithin H.bytes span.now (es ++ fs) met.new.items) }
     ensures faults { OnOk result ((before : List (Table H)) → MeetFaults H.bytes span.now before met.old.items
         → MeetFaults H.bytes span.now (before ++ table.now ∷ []) met.new.items) }
+    ensures copies { OnOk result ((before : List (Table H)) → AreMet H.bytes span.now before met.old.items
+        → AreMet H.bytes span.now (before ++ table.now ∷ []) met.new.items) }
 {
     if !table.meets(span) {
         return Ok(());

@@ -8,12 +8,12 @@ use Rattle.vl_merge.specs.MergeOf.{merge_of}
 use Rattle.vl_model.specs.Merging.{merged}
 use Rattle.vl_model.specs.declared.way.Way.TheVariants.{Up}
 use Rattle.vl_table.specs.CursorLeft.{cursor_left}
-use Rattle.vl_compact.specs.declared.input_cursor.InputCursor.{InputCursor}
+use Rattle.vl_table.specs.declared.cursor.TableCursor.{TableCursor}
 use Rattle.vl_compact.proofs.merge.merged.Goals as goal
 
 pub returns-clause-left : goal.returns-clause-left
 returns-clause-left g c = λ ts are.
-    let left = λ (x : InputCursor g.row.H.Denot g.row.R.Denot g.H.HeldFile g.H.Clone). cursor_left g.H.HeldFile.bytes x.cursor in
+    let left = λ (x : TableCursor g.row.H.Denot g.row.R.Denot g.H.HeldFile g.H.Clone). cursor_left g.H.HeldFile.bytes x in
     let after = c.args.after.now in
     let ess = map (λ (t : laid.Table). behind after t.entries) ts in
     IfOk-weaker c.new.result _ _
@@ -25,3 +25,8 @@ returns-clause-left g c = λ ts are.
 pub returns-clause-may_fail : goal.returns-clause-may_fail
 returns-clause-may_fail g c =
     IfOk-weaker c.new.result _ _ (λ it may fault fails. c.in_ok-cursors.ensures.may_fail fault (may fault fails)) c.new.ensures.may_fail
+
+pub returns-clause-stands : goal.returns-clause-stands
+returns-clause-stands g c =
+    IfOk-weaker c.new.result _ _
+    (λ it all is_met upward stands. c.in_ok-cursors.ensures.stands is_met (all is_met upward stands)) c.new.ensures.stands

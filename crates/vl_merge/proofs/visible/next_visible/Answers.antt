@@ -1,5 +1,7 @@
-use Rattle.std.proofs.Common.{ap, sym, ◌∙◌, arith}
+use Rattle.std.proofs.Common.{ap, sym, ◌∙◌, arith, subst, inl, inr}
+use Rattle.vl_model.specs.Cursors.{IsReached}
 use Rattle.vl_merge.specs.Held.{only_shown}
+use Rattle.vl_merge.proofs.StandingLaws.{met_passed, stands_passed}
 use Rattle.vl_merge.proofs.Steps.{step_spends, step_kept, step_given, step_end}
 use Rattle.vl_merge.proofs.visible.next_visible.Goals as goal
 
@@ -25,6 +27,10 @@ loop-entry-preserved g c = record {
       c.in-Some.is c.in_ok-entry.ensures.spends c.loop-entry.invariant.spends;
   steady = c.in_ok-entry.ensures.cause ∙ c.loop-entry.invariant.steady;
   fails = λ fault now. c.loop-entry.invariant.fails fault (c.next.ensures.keeps fault now);
+  back = λ is_met. stands_passed is_met _ c.loop-entry.held c.pass-winner.new.held (g.M.Cursor.stands_to c.loop-entry.merge is_met)
+      (g.M.Cursor.stands_to c.next.new.self is_met) c.in-Some.entry c.args.number (c.loop-entry.invariant.back is_met)
+      (λ met. c.in_ok-entry.ensures.reaches is_met (subst (IsReached is_met) (sym c.in-Some.is) met))
+      (c.next.ensures.back is_met) c.pass-winner.ensures.held;
 }
 
 pub returns-clause-given : goal.returns-clause-given
@@ -33,3 +39,20 @@ returns-clause-given g c =
     (g.M.Cursor.left c.next.new.self) c.loop-entry.invariant.kept
     c.in_ok-entry.field-0 c.only_shown.result c.in_ok-entry.ensures.given c.in_default.is c.take.ensures.after
     (c.only_shown.ensures ∙ ap (only_shown c.args.hides) c.take.ensures.value)
+
+pub returns-then-is_some-clause-reaches : goal.returns-then-is_some-clause-reaches
+returns-then-is_some-clause-reaches g c = λ is_met met.
+    c.loop-entry.invariant.back is_met (inl (met_passed is_met c.args.hides c.args.number c.loop-entry.held c.in-Some.entry
+    c.pass-winner.result c.pass-winner.ensures.gives (sym c.is_some.ensures ∙ c.if-is_some.true) met))
+
+pub returns-then-is_some-clause-back : goal.returns-then-is_some-clause-back
+returns-then-is_some-clause-back g c = λ is_met.
+    stands_passed is_met _ c.loop-entry.held c.pass-winner.new.held (g.M.Cursor.stands_to c.loop-entry.merge is_met)
+    (g.M.Cursor.stands_to c.next.new.self is_met) c.in-Some.entry c.args.number (c.loop-entry.invariant.back is_met)
+    (λ met. c.in_ok-entry.ensures.reaches is_met (subst (IsReached is_met) (sym c.in-Some.is) met))
+    (c.next.ensures.back is_met) c.pass-winner.ensures.held
+
+pub returns-clause-reaches : goal.returns-clause-reaches
+returns-clause-reaches g c = λ is_met met.
+    c.loop-entry.invariant.back is_met
+    (inr (c.in_ok-entry.ensures.reaches is_met (subst (IsReached is_met) (sym c.in_default.is) tt)))

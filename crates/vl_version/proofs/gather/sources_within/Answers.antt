@@ -9,6 +9,9 @@ use Rattle.vl_version.specs.Sources.{held_entries}
 use Rattle.vl_version.proofs.Telling.{adds_then}
 use Rattle.vl_version.specs.Naming.{FailWithin}
 use Rattle.vl_version.specs.levels.LevelsLooked.{tables_of}
+use Rattle.vl_version.specs.Whole.{LevelsReadTo, LevelsStop}
+use Rattle.vl_version.proofs.WholeLaws.{stops_levels, stops_memory}
+use Rattle.std.proofs.Common.{inl, inr}
 use Rattle.vl_version.proofs.gather.sources_within.Goals as goal
 
 pub returns-clause-winners : goal.returns-clause-winners
@@ -41,3 +44,21 @@ returns-clause-faults g c =
     c.in_ok-span.ensures
     (c.in_ok-add_levels.ensures.faults []
     (c.in_ok-add_frozen.ensures.faults [] (c.in_ok-add_memtable.ensures.faults [] (c.in_ok-sources.ensures.faults span))))
+
+pub returns-clause-reads : goal.returns-clause-reads
+returns-clause-reads g c = λ is_met stand.
+    subst (λ (s : Span). LevelsReadTo g.H.HeldFile.bytes s c.args.wanted.way is_met c.args.behind.now.levels) c.in_ok-span.ensures
+    (c.in_ok-add_levels.ensures.reads is_met stand).1
+
+pub returns-clause-stops : goal.returns-clause-stops
+returns-clause-stops g c = λ fault fails.
+    let bytes = g.H.HeldFile.bytes in
+    let span = c.in_ok-span.span in
+    let way = c.args.wanted.way in
+    let levels = c.args.behind.now.levels in
+    let held = c.in_ok-add_frozen.ensures.faults [] (c.in_ok-add_memtable.ensures.faults [] (c.in_ok-sources.ensures.faults span)) in
+    subst (λ (s : Span). LevelsStop bytes s way levels fault) c.in_ok-span.ensures
+    (elim (c.in_ok-add_levels.ensures.stops fault fails) [
+      | inl before ↦ stops_memory bytes span way levels fault (held fault before)
+      | inr one ↦ stops_levels bytes span way levels fault one
+    ])

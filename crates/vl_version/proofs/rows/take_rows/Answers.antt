@@ -1,7 +1,8 @@
 use Rattle.std.proofs.Common.{ap, sym, subst, ◌∙◌, arith, inl, inr, refl, take, Vec, Global}
 use Rattle.std.specs.Prelude.{◌⊎◌, Err, List, Option, Result, Some}
 use Rattle.std.proofs.lemmas.Result.{err_from_is_err_and}
-use Rattle.vl_model.specs.Cursors.{Gives}
+use Rattle.std.specs.List.{AllByRecursion}
+use Rattle.vl_model.specs.Cursors.{Gives, IsReached}
 use Rattle.vl_model.specs.Keys.{Row}
 use Rattle.vl_model.specs.declared.entry.Entry.{Entry}
 use Rattle.vl_version.specs.Answers.{IsAnswer, IsAstray}
@@ -13,6 +14,7 @@ use Rattle.vl_version.proofs.TakeLaws.{TakesFront, astray_next, err_answer, leav
 use Rattle.vl_version.proofs.TakeLaws.{takes_end, takes_next, takes_none}
 use Rattle.vl_version.specs.Naming.{IsLogFault}
 use Rattle.vl_version.proofs.NamingLaws.{err_is}
+use Rattle.vl_version.proofs.WholeLaws.{rows_next}
 use Rattle.vl_version.proofs.rows.take_rows.Goals as goal
 
 pub returns-in_default-clause-answers : goal.returns-in_default-clause-answers
@@ -51,6 +53,14 @@ taking-preserved g c = record {
       (c.taking.invariant.near left is near) c.in-Some.entry
       (subst (λ (o : Option Entry). Gives (g.C.Cursor.left c.taking.entries) (g.C.Cursor.left c.next.new.self) o) c.in-Some.is
       c.in_ok-entry.ensures.given);
+  back = λ is_met stands. c.taking.invariant.back is_met (c.next.ensures.back is_met stands);
+  reaches = λ is_met_by itself.
+      let e = c.in-Some.entry in
+      rows_next (λ key. g.C.Cursor.stands_to c.args.entries.now (is_met_by key)) e c.taking.rows.items c.push_row.new.rows.items
+      (c.taking.invariant.reaches is_met_by itself)
+      (c.taking.invariant.back (is_met_by e.key) (c.in_ok-entry.ensures.reaches (is_met_by e.key)
+      (subst (IsReached (is_met_by e.key)) (sym c.in-Some.is) (itself e))))
+      c.in_ok-push_row.ensures.pushes;
 }
 
 pub taking-init : goal.taking-init
@@ -62,6 +72,9 @@ taking-init g c = record {
       (g.C.Cursor.left c.args.entries.now) rows c.args.limit) (sym c.new-rows.ensures.items)
       (takes_none (stored_in g.H.HeldFile.bytes c.args.logs.now) left (g.C.Cursor.left c.args.entries.now) c.args.limit is kept);
   near = λ left is near. record { rest = left; behind = is; near = near };
+  back = λ is_met stands. stands;
+  reaches = λ is_met_by itself.
+      subst (AllByRecursion (λ (row : Row). g.C.Cursor.stands_to c.args.entries.now (is_met_by row.0))) (sym c.new-rows.ensures.items) tt;
 }
 
 pub returns-in_err-push_row-clause-answers : goal.returns-in_err-push_row-clause-answers
@@ -111,3 +124,16 @@ returns-in_err-push_row-clause-fault g c =
     err_is {T = Vec Row Global} (λ (fault : ReadFault). g.C.Cursor.may_fail c.args.entries.now fault
     ⊎ IsLogFault c.args.logs.now fault) c.in_err-push_row.field-0.0
     c.from_residual-in_err-push_row.result (p.1 ∙ ap Err p.2) (inr c.in_err-push_row.ensures.fault)
+
+pub returns-in_default-clause-ends : goal.returns-in_default-clause-ends
+returns-in_default-clause-ends g c = λ is_met few.
+    c.taking.invariant.back is_met (c.in_ok-entry.ensures.reaches is_met (subst (IsReached is_met) (sym c.in_default.is) tt))
+
+pub returns-clause-ends : goal.returns-clause-ends
+returns-clause-ends g c = λ is_met few. absurd (omega (arith, few))
+
+pub returns-in_default-clause-reaches : goal.returns-in_default-clause-reaches
+returns-in_default-clause-reaches g c = c.taking.invariant.reaches
+
+pub returns-clause-reaches : goal.returns-clause-reaches
+returns-clause-reaches g c = c.taking.invariant.reaches

@@ -1,5 +1,6 @@
-use Rattle.std.proofs.Common.{◌≡◌, List, Some}
+use Rattle.std.proofs.Common.{◌≡◌, ℕ, Bool, true, List, Some}
 use Rattle.std.specs.List.{AllByRecursion}
+use Rattle.vl_model.specs.Keys.{Row}
 use Rattle.vl_model.specs.declared.entry.Entry.{Entry}
 use Rattle.vl_version.specs.Near.{AreNear}
 use Rattle.vl_version.specs.Rows.{IsKept}
@@ -16,6 +17,9 @@ invariant-taking g l = record {
       → TakesFront (stored_in g.H.HeldFile.bytes l.logs) left (g.C.Cursor.left l.entries) l.rows.items l.limit;
   near : (left : List Entry) → g.C.Cursor.left l.initial.entries ≡ Some left → AreNear left
       → LeavesNear (g.C.Cursor.left l.entries);
+  back : (is_met : Entry → Bool) → g.C.Cursor.stands_to l.entries is_met → g.C.Cursor.stands_to l.initial.entries is_met;
+  reaches : (is_met_by : List ℕ → Entry → Bool) → ((e : Entry) → is_met_by e.key e ≡ true)
+      → AllByRecursion (λ (row : Row). g.C.Cursor.stands_to l.initial.entries (is_met_by row.0)) l.rows.items;
 }
 
 abbrev pub decreases-taking : goal.decreases-taking

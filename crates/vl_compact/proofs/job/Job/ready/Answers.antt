@@ -1,5 +1,6 @@
-use Rattle.std.proofs.Common.{sym, ◌∙◌}
+use Rattle.std.proofs.Common.{is_some, true, false, sym, ◌∙◌, ◌≡◌}
 use Rattle.vl_compact.proofs.Making.{ended_already, left_told, ready_more, ready_none, rules_of}
+use Rattle.vl_compact.proofs.Stopping.{reached_end}
 use Rattle.vl_compact.proofs.job.Job.ready.Goals as goal
 
 pub returns-then-self-clause-answers : goal.returns-then-self-clause-answers
@@ -30,3 +31,14 @@ returns-clause-answers g c = λ j fits h.
     ready_none W bytes has job j h c.in_ok-keeping.keeping.last c.next.new.self.last c.new-found.result.items c.next.new.found.items _
     c.in_ok-next.next n k.first (sym c.is_some.ensures ∙ c.if-is_some.false) c.if-self.false c.new-found.ensures.items
     c.append.new.self c.in_ok-append.ensures.items
+
+pub returns-clause-whole : goal.returns-clause-whole
+returns-clause-whole g c = λ none going.
+    c.in_ok-keeping.ensures.stands (λ e. false) (λ e f met le. met)
+    (c.in_ok-next.ensures.reaches (λ e. false) (reached_end (λ e. false) c.in_ok-next.next (sym c.is_some.ensures ∙ c.if-is_some.false)))
+
+pub returns-then-self-clause-whole : goal.returns-then-self-clause-whole
+returns-then-self-clause-whole g c = λ none going. absurd (let both : true ≡ false = sym c.if-self.true ∙ going in cc)
+
+pub returns-then-is_some-clause-whole : goal.returns-then-is_some-clause-whole
+returns-then-is_some-clause-whole g c = λ none going. absurd cc

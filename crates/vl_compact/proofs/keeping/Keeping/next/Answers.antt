@@ -2,7 +2,7 @@ use Rattle.std.proofs.Common.{Bool, Option, subst, sym, ◌∙◌, arith}
 use Rattle.vl_compact.proofs.Passing.{gives_it, gives_none, walks_on}
 use Rattle.vl_compact.specs.Keeps.{AreRulesOf, Passes, place_in}
 use Rattle.vl_compact.specs.declared.rules.Rules.{Rules}
-use Rattle.vl_model.specs.Cursors.{Gives, Spends}
+use Rattle.vl_model.specs.Cursors.{Gives, IsReached, Spends}
 use Rattle.vl_model.specs.declared.entry.Entry.{Entry}
 use Rattle.vl_compact.proofs.keeping.Keeping.next.Goals as goal
 
@@ -39,6 +39,7 @@ walking-preserved-else-branch g c = record {
     files = c.in_ok-entry.ensures.cause ∙ c.walking.invariant.steady.files;
   };
   keeps = λ fault may. c.walking.invariant.keeps fault (c.next.ensures.keeps fault may);
+  back = λ is_met stands. c.walking.invariant.back is_met (c.next.ensures.back is_met stands);
   spends =
       let less = subst (λ (o : Option Entry). Spends (g.C.Cursor.budget c.walking.self.cursor) (g.C.Cursor.budget c.next.new.self) o)
       c.in-Some.is c.in_ok-entry.ensures.spends in
@@ -65,6 +66,7 @@ walking-preserved-else-branch-2 g c = record {
     files = c.in_ok-entry.ensures.cause ∙ c.walking.invariant.steady.files;
   };
   keeps = λ fault may. c.walking.invariant.keeps fault (c.next.ensures.keeps fault may);
+  back = λ is_met stands. c.walking.invariant.back is_met (c.next.ensures.back is_met stands);
   spends =
       let less = subst (λ (o : Option Entry). Spends (g.C.Cursor.budget c.walking.self.cursor) (g.C.Cursor.budget c.next.new.self) o)
       c.in-Some.is c.in_ok-entry.ensures.spends in
@@ -91,6 +93,7 @@ walking-preserved g c = record {
     files = c.in_ok-entry.ensures.cause ∙ c.walking.invariant.steady.files;
   };
   keeps = λ fault may. c.walking.invariant.keeps fault (c.next.ensures.keeps fault may);
+  back = λ is_met stands. c.walking.invariant.back is_met (c.next.ensures.back is_met stands);
   spends =
       let less = subst (λ (o : Option Entry). Spends (g.C.Cursor.budget c.walking.self.cursor) (g.C.Cursor.budget c.next.new.self) o)
       c.in-Some.is c.in_ok-entry.ensures.spends in
@@ -103,3 +106,11 @@ returns-clause-next g c = λ j left are has fits told.
     let now = g.C.Cursor.left c.next.new.self in
     gives_none j _ c.walking.self.last before c.walking.found.items (c.walking.invariant.walked j left are has fits told) now
     (subst (λ (o : Option Entry). Gives before now o) c.in_default.is c.in_ok-entry.ensures.given)
+
+pub returns-then-branch-clause-reaches : goal.returns-then-branch-clause-reaches
+returns-then-branch-clause-reaches g c = λ is_met met.
+    c.walking.invariant.back is_met (c.in_ok-entry.ensures.reaches is_met (subst (IsReached is_met) (sym c.in-Some.is) met))
+
+pub returns-clause-reaches : goal.returns-clause-reaches
+returns-clause-reaches g c = λ is_met met.
+    c.walking.invariant.back is_met (c.in_ok-entry.ensures.reaches is_met (subst (IsReached is_met) (sym c.in_default.is) met))

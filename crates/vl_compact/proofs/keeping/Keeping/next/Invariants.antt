@@ -1,4 +1,4 @@
-use Rattle.std.proofs.Common.{◌≡◌, ◌≤◌, List, Some}
+use Rattle.std.proofs.Common.{◌≡◌, ◌≤◌, Bool, List, Some}
 use Rattle.vl_compact.proofs.keeping.Keeping.next.Given as goal
 use Rattle.vl_compact.specs.Keeps.{AreRulesOf, Walked, stage}
 use Rattle.vl_compact.specs.Reading.{NoneRose, counts}
@@ -14,6 +14,7 @@ invariant-walking g l = record {
   fits : g.V.Sources.fits l.base l.initial.reader.looks → g.V.Sources.fits l.base l.reader.looks;
   steady : NoneRose (counts (λ x. g.V.Sources.faults x) (λ r. g.C.Cursor.faults r) l.initial.reader l.reader);
   keeps : (fault : _) → g.C.Cursor.may_fail l.self.cursor fault → g.C.Cursor.may_fail l.initial.self.cursor fault;
+  back : (is_met : Entry → Bool) → g.C.Cursor.stands_to l.self.cursor is_met → g.C.Cursor.stands_to l.initial.self.cursor is_met;
   spends : g.C.Cursor.budget l.self.cursor ≤ g.C.Cursor.budget l.initial.self.cursor;
 }
 

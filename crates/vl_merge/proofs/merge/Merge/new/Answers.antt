@@ -1,7 +1,8 @@
 use Rattle.std.proofs.Common.{map, ap, ◌∙◌, subst}
-use Rattle.std.specs.List.{sum_by}
+use Rattle.std.specs.List.{AllByRecursion, sum_by}
 use Rattle.vl_merge.specs.MergeOf.{OneMayFail, merge_of}
 use Rattle.vl_merge.proofs.BuildLaws.{left-planted, budget-planted, fails-planted}
+use Rattle.vl_merge.proofs.StandingLaws.{stands-planted}
 use Rattle.vl_merge.proofs.merge.Merge.new.Goals as goal
 
 pub returns-clause-left : goal.returns-clause-left
@@ -21,3 +22,9 @@ returns-clause-may_fail g c = λ fault fails.
     let may_fail = g.C.Cursor.may_fail in
     subst (λ cs. OneMayFail may_fail cs fault) c.in_ok-build_tree.ensures.leaves
     (fails-planted may_fail c.in_ok-build_tree.field-0 fault fails)
+
+pub returns-clause-stands : goal.returns-clause-stands
+returns-clause-stands g c = λ is_met upward stands.
+    let stands_to = g.C.Cursor.stands_to in
+    subst (AllByRecursion (λ k. stands_to k is_met)) c.in_ok-build_tree.ensures.leaves
+    (stands-planted stands_to is_met c.in_ok-build_tree.field-0 c.in_ok-build_tree.ensures.unread (stands upward))

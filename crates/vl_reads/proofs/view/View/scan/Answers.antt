@@ -7,7 +7,9 @@ use Rattle.vl_version.specs.declared.wanted.Wanted.{Wanted}
 use Rattle.vl_model.specs.History.{contents_at}
 use Rattle.vl_model.specs.Keys.{Row, Writes}
 use Rattle.vl_version.specs.Gathered.{span_of}
-use Rattle.vl_version.specs.Naming.{IsScanFault}
+use Rattle.vl_version.specs.Naming.{IsLogFault, IsScanFault}
+use Rattle.vl_version.specs.Whole.{LevelsStop}
+use Rattle.std.specs.Prelude.{◌⊎◌}
 use Rattle.vl_version.specs.Sources.{tables_in}
 use Rattle.vl_reads.proofs.view.View.scan.Goals as goal
 
@@ -50,3 +52,13 @@ returns-in_err-rows-clause-fault g c =
     let version = c.args.self.now.version in
     fails_so (IsScanFault g.H.HeldFile.bytes (span_of c.args.low.now c.args.high.now) (tables_in version) version.behind.logs.items)
     c.in_err-rows.field-0.0 c.in_err-rows.ensures.fault c.from_residual-in_err-rows.result c.from_residual-in_err-rows.ensures.1
+
+pub returns-clause-whole : goal.returns-clause-whole
+returns-clause-whole g c = c.in_ok-rows.ensures.whole
+
+pub returns-in_err-rows-clause-stops : goal.returns-in_err-rows-clause-stops
+returns-in_err-rows-clause-stops g c =
+    let version = c.args.self.now.version in
+    fails_so (λ fault. LevelsStop g.H.HeldFile.bytes (span_of c.args.low.now c.args.high.now) c.args.way version.behind.levels fault
+    ⊎ IsLogFault version.behind.logs.items fault)
+    c.in_err-rows.field-0.0 c.in_err-rows.ensures.stops c.from_residual-in_err-rows.result c.from_residual-in_err-rows.ensures.1

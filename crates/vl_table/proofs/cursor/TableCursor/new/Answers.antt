@@ -9,6 +9,8 @@ use Rattle.vl_table.specs.Stretches.{on_way, stretch_of}
 use Rattle.vl_table.specs.declared.stretch.Stretch.{Stretch}
 use Rattle.vl_table.specs.declared.table.Table.{Table}
 use Rattle.vl_table.proofs.CursorSteps.{left_of, none_at}
+use Rattle.vl_table.proofs.StandingSteps.{stands_begun}
+use Rattle.vl_table.proofs.StoppingSteps.{stops_begun}
 use Rattle.vl_table.proofs.StretchSteps.{end_on}
 use Rattle.vl_table.proofs.WholeTables.{told_whole}
 use Rattle.vl_table.proofs.cursor.TableCursor.new.Goals as goal
@@ -43,3 +45,11 @@ returns-clause-begins g c =
       unread = λ i. none_at way (slice_get ts 0) nothing past i ++ blocks_over span way (on_way way (whole i));
       none = ap (within span) (end_on way nothing c.in_ok-new.field-0 past);
     }
+
+pub returns-clause-may_fail : goal.returns-clause-may_fail
+returns-clause-may_fail g c = λ fault fails.
+    stops_begun g.H.HeldFile.bytes c.args.tables.items c.args.span c.args.way _ (returns-clause-begins g c) fault fails
+
+pub returns-clause-stands : goal.returns-clause-stands
+returns-clause-stands g c = λ is_met stands.
+    stands_begun g.H.HeldFile.bytes is_met c.args.tables.items c.args.span c.args.way _ (returns-clause-begins g c) stands

@@ -1,6 +1,8 @@
-use Rattle.std.proofs.Common.{◌≡◌, ◌≤◌}
+use Rattle.std.proofs.Common.{◌≡◌, ◌≤◌, Bool}
 use Rattle.vl_model.specs.Cursors.{Keeps}
+use Rattle.vl_model.specs.declared.entry.Entry.{Entry}
 use Rattle.vl_table.specs.CursorLeft.{GoesOn, HasRead, blocks_left, cursor_budget, cursor_left}
+use Rattle.vl_table.specs.ReadTo.{CursorStands}
 use Rattle.vl_table.proofs.cursor.TableCursorCursor.next.Given as goal
 
 abbrev pub invariant-steps : goal.invariant-steps
@@ -10,6 +12,7 @@ invariant-steps g l = record {
   steady : g.R.Reader.faults l.reader ≡ g.R.Reader.faults l.initial.reader;
   read : HasRead g.H.HeldFile.bytes l.fn.self l.self;
   goes : GoesOn l.fn.self l.self;
+  back : (is_met : Entry → Bool) → CursorStands g.H.HeldFile.bytes l.self is_met → CursorStands g.H.HeldFile.bytes l.fn.self is_met;
 }
 
 abbrev pub decreases-steps : goal.decreases-steps

@@ -1,6 +1,7 @@
 use Rattle.std.proofs.Common.{◌∷◌, [], sym, ◌∙◌}
 use Rattle.vl_version.proofs.TableSources.{have_outside, have_shared}
 use Rattle.vl_version.proofs.NamingLaws.{meet_next, meet_outside}
+use Rattle.vl_version.proofs.WholeLaws.{are_met, are_outside}
 use Rattle.vl_version.proofs.gather.tables.add_if_met.Goals as goal
 
 pub returns-then-not-meets-clause-have : goal.returns-then-not-meets-clause-have
@@ -22,3 +23,13 @@ returns-clause-faults g c before meet =
     meet_next g.H.HeldFile.bytes c.args.span.now g.H.HeldFile.size g.H.HeldFile.named before c.args.met.now.items c.args.table.now
     c.in_ok-share.field-0 c.in_ok-share.ensures (sym c.meets.ensures ∙ c.if-not-meets.false) meet c.push.new.self.items
     c.in_ok-push.ensures.items
+
+pub returns-then-not-meets-clause-copies : goal.returns-then-not-meets-clause-copies
+returns-then-not-meets-clause-copies g c before are =
+    are_outside g.H.HeldFile.bytes c.args.span.now before c.args.met.now.items c.args.table.now
+    (sym c.meets.ensures ∙ c.if-not-meets.true) are
+
+pub returns-clause-copies : goal.returns-clause-copies
+returns-clause-copies g c before are =
+    are_met g.H.HeldFile.bytes c.args.span.now g.H.HeldFile.size g.H.HeldFile.named before c.args.met.now.items c.push.new.self.items
+    c.args.table.now c.in_ok-share.field-0 (sym c.meets.ensures ∙ c.if-not-meets.false) c.in_ok-share.ensures c.in_ok-push.ensures.items are

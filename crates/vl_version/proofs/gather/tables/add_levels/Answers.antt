@@ -5,6 +5,8 @@ use Rattle.vl_table.specs.declared.table.Table.{Table}
 use Rattle.vl_version.specs.levels.LevelTables.{AreAllApart, all_tables}
 use Rattle.vl_version.proofs.TableSources.{adds_next, no_back, no_front}
 use Rattle.vl_version.specs.Naming.{AddFaults}
+use Rattle.vl_version.specs.Whole.{AddStops, AllReadTo, EachReadTo, EachStops, OneStops}
+use Rattle.vl_version.proofs.WholeLaws.{adds_both_stops}
 use Rattle.vl_version.proofs.NamingLaws.{adds_fault_next}
 use Rattle.vl_version.proofs.gather.tables.add_levels.Goals as goal
 
@@ -47,3 +49,35 @@ returns-clause-faults g c =
     (subst (λ (l : List (List (Table g.row.H.Denot))). AddFaults bytes span (all_tables l) c.add_newest.new.sources.items
     c.add_deeper.new.sources.items) c.deeper.ensures adds))
     c.add_deeper.ensures.faults
+
+pub returns-clause-reads : goal.returns-clause-reads
+returns-clause-reads g c =
+    on_ok_weaker c.add_deeper.result
+    (λ reads is_met stand.
+    let bytes = g.H.HeldFile.bytes in
+    let span = c.args.span.now in
+    let deeper = reads is_met stand in
+    let newest = c.in_ok-add_newest.ensures.reads is_met deeper.0 in (
+      newest.0,
+      record {
+        newest = subst (EachReadTo bytes span c.args.way is_met) c.newest.ensures newest.1;
+        deeper = subst (AllReadTo bytes span c.args.way is_met) c.deeper.ensures deeper.1;
+      },
+    ))
+    c.add_deeper.ensures.reads
+
+pub returns-clause-stops : goal.returns-clause-stops
+returns-clause-stops g c =
+    on_ok_weaker c.add_deeper.result
+    (λ stops.
+    let bytes = g.H.HeldFile.bytes in
+    let levels = c.args.levels.now in
+    let span = c.args.span.now in
+    adds_both_stops bytes span c.args.way (λ fault. EachStops bytes span c.args.way fault levels.newest.items)
+    (λ fault. OneStops bytes span c.args.way fault levels.deeper.items)
+    c.args.sources.now.items c.add_newest.new.sources.items c.add_deeper.new.sources.items
+    (subst (λ (l : List (Table g.row.H.Denot)). AddStops bytes (λ fault. EachStops bytes span c.args.way fault l)
+    c.args.sources.now.items c.add_newest.new.sources.items) c.newest.ensures c.in_ok-add_newest.ensures.stops)
+    (subst (λ (l : List (List (Table g.row.H.Denot))). AddStops bytes (λ fault. OneStops bytes span c.args.way fault l)
+    c.add_newest.new.sources.items c.add_deeper.new.sources.items) c.deeper.ensures stops))
+    c.add_deeper.ensures.stops

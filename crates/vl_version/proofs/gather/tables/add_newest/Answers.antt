@@ -5,6 +5,8 @@ use Rattle.vl_table.specs.declared.table.Table.{Table}
 use Rattle.vl_version.proofs.TableSources.{adds_next, adds_no_tables, adds_one, item_at, one_at}
 use Rattle.vl_version.proofs.looking.Parts.{take_next}
 use Rattle.vl_version.specs.Naming.{AddFaults}
+use Rattle.vl_version.specs.Whole.{AddReads, AddStops, EachReadTo, EachStops, MetReadTo, MetStop}
+use Rattle.vl_version.proofs.WholeLaws.{adds_next_read, adds_next_stop, adds_no_reads, adds_no_stops}
 use Rattle.vl_version.proofs.NamingLaws.{adds_fault_next, adds_no_faults}
 use Rattle.vl_version.proofs.gather.tables.add_newest.Goals as goal
 
@@ -13,6 +15,10 @@ loop-at-init g c = record {
   adds = adds_no_tables g.H.HeldFile.bytes c.args.span.now c.args.way c.args.sources.now.items;
   quiet = λ none. refl;
   faults = adds_no_faults g.H.HeldFile.bytes c.args.span.now c.args.sources.now.items;
+  reads = adds_no_reads g.H.HeldFile.bytes c.args.span.now c.args.way
+      (λ is_met. EachReadTo g.H.HeldFile.bytes c.args.span.now c.args.way is_met []) c.args.sources.now.items (λ is_met. tt);
+  stops = adds_no_stops g.H.HeldFile.bytes c.args.span.now c.args.way
+      (λ fault. EachStops g.H.HeldFile.bytes c.args.span.now c.args.way fault []) c.args.sources.now.items;
 }
 
 pub loop-at-preserved : goal.loop-at-preserved
@@ -36,6 +42,18 @@ loop-at-preserved g c =
           c.add_tables.new.sources.items c.loop-at.invariant.faults
           (subst (λ (l : List (Table g.row.H.Denot)). AddFaults bytes c.args.span.now l c.loop-at.sources.items
           c.add_tables.new.sources.items) (one_at ts i (i + 1 - i) t.0 inside t.1 (omega arith)) c.in_ok-add_tables.ensures.faults));
+      reads = adds_next_read bytes c.args.span.now c.args.way
+          (λ is_met u. MetReadTo bytes c.args.span.now c.args.way is_met (u ∷ [])) ts i t.0 c.args.sources.now.items
+          c.loop-at.sources.items c.add_tables.new.sources.items inside t.1 c.loop-at.invariant.reads
+          (subst (λ (l : List (Table g.row.H.Denot)). AddReads bytes
+          (λ is_met. MetReadTo bytes c.args.span.now c.args.way is_met l) c.loop-at.sources.items c.add_tables.new.sources.items)
+          (one_at ts i (i + 1 - i) t.0 inside t.1 (omega arith)) c.in_ok-add_tables.ensures.reads);
+      stops = adds_next_stop bytes c.args.span.now c.args.way
+          (λ fault u. MetStop bytes c.args.span.now c.args.way fault (u ∷ [])) ts i t.0 c.args.sources.now.items
+          c.loop-at.sources.items c.add_tables.new.sources.items inside t.1 c.loop-at.invariant.stops
+          (subst (λ (l : List (Table g.row.H.Denot)). AddStops bytes
+          (λ fault. MetStop bytes c.args.span.now c.args.way fault l) c.loop-at.sources.items c.add_tables.new.sources.items)
+          (one_at ts i (i + 1 - i) t.0 inside t.1 (omega arith)) c.in_ok-add_tables.ensures.stops);
     }
 
 pub returns-clause-winners : goal.returns-clause-winners
@@ -48,3 +66,15 @@ pub returns-clause-faults : goal.returns-clause-faults
 returns-clause-faults g c =
     subst (λ (l : List (Table g.row.H.Denot)). AddFaults g.H.HeldFile.bytes c.args.span.now l c.args.sources.now.items
     c.loop-at.sources.items) (take_all c.loop-at.at c.args.tables.now c.loop-at-test.false) c.loop-at.invariant.faults
+
+pub returns-clause-reads : goal.returns-clause-reads
+returns-clause-reads g c =
+    subst (λ (l : List (Table g.row.H.Denot)). AddReads g.H.HeldFile.bytes
+    (λ is_met. EachReadTo g.H.HeldFile.bytes c.args.span.now c.args.way is_met l) c.args.sources.now.items c.loop-at.sources.items)
+    (take_all c.loop-at.at c.args.tables.now c.loop-at-test.false) c.loop-at.invariant.reads
+
+pub returns-clause-stops : goal.returns-clause-stops
+returns-clause-stops g c =
+    subst (λ (l : List (Table g.row.H.Denot)). AddStops g.H.HeldFile.bytes
+    (λ fault. EachStops g.H.HeldFile.bytes c.args.span.now c.args.way fault l) c.args.sources.now.items c.loop-at.sources.items)
+    (take_all c.loop-at.at c.args.tables.now c.loop-at-test.false) c.loop-at.invariant.stops

@@ -23,6 +23,12 @@ use Rattle.std.proofs.lemmas.Result.{IfErr-weaker}
 use Rattle.vl_version.specs.Naming.{IsMetFault, IsScanFault}
 use Rattle.vl_version.specs.Sources.{tables_in}
 use Rattle.vl_version.proofs.NamingLaws.{scan_fault}
+use Rattle.vl_version.proofs.WholeLaws.{if_ok_both, none_upward, past_itself, past_upward, rows_weaker}
+use Rattle.vl_version.specs.Whole.{LevelsReadTo, LevelsStop, SourcesStand, is_past}
+use Rattle.vl_version.specs.Naming.{IsLogFault}
+use Rattle.std.specs.Prelude.{◌⊎◌}
+use Rattle.std.proofs.Common.{inl, inr}
+use Rattle.std.proofs.Common.{Bool, false}
 use Rattle.vl_version.proofs.version.Version.rows.Goals as goal
 
 pub returns-clause-answers : goal.returns-clause-answers
@@ -103,4 +109,44 @@ returns-clause-fault g c =
     (scan_fault bytes span (tables_in self) c.deref.result.now _ fault
     (λ bad. subst (λ (b : Behind g.row.H.Denot). IsMetFault bytes span (tables_of b.levels) fault) behind
     (c.in_ok-sources.ensures.faults fault (c.in_ok-new.ensures.may_fail fault (c.new-visible.ensures.may_fail fault bad)))) may))
+    c.take_rows.ensures.fault
+
+pub returns-clause-whole : goal.returns-clause-whole
+returns-clause-whole g c =
+    let self = c.args.self.now in
+    let bytes = g.H.HeldFile.bytes in
+    let wanted = c.args.wanted in
+    let way = wanted.way in
+    let span = span_of wanted.low.now wanted.high.now in
+    let behind : c.as_ref-behind.result.now ≡ self.behind = c.as_ref-behind.ensures in
+    let sources = c.in_ok-sources.sources.items in
+    let read : (is_met : Entry → Bool) → SourcesStand bytes is_met sources → LevelsReadTo bytes span way is_met self.behind.levels =
+    λ is_met stand. subst (λ (b : Behind g.row.H.Denot). LevelsReadTo bytes span way is_met b.levels) behind
+    (c.in_ok-sources.ensures.reads is_met stand) in
+    if_ok_both c.take_rows.result _ _ _
+    (λ rows to end. record {
+      all = λ few. read (λ e. false)
+          (c.in_ok-new.ensures.stands (λ e. false) (none_upward way) (c.new-visible.ensures.stands (λ e. false) (end few)));
+      to_rows = rows_weaker _ (λ row. LevelsReadTo bytes span way (is_past way row.0) self.behind.levels)
+          (λ row stands. read (is_past way row.0)
+          (c.in_ok-new.ensures.stands (is_past way row.0) (past_upward way row.0) (c.new-visible.ensures.stands (is_past way row.0) stands)))
+          rows.items to;
+    })
+    (c.take_rows.ensures.reaches (is_past way) (past_itself way)) (c.take_rows.ensures.ends (λ e. false))
+
+pub returns-clause-stops : goal.returns-clause-stops
+returns-clause-stops g c =
+    let self = c.args.self.now in
+    let bytes = g.H.HeldFile.bytes in
+    let way = c.args.wanted.way in
+    let span = span_of c.args.wanted.low.now c.args.wanted.high.now in
+    let behind : c.as_ref-behind.result.now ≡ self.behind = c.as_ref-behind.ensures in
+    let kept : c.deref.result.now ≡ self.behind.logs.items = c.deref.ensures.value
+    ∙ ap (λ (b : Behind g.row.H.Denot). b.logs.items) behind in
+    IfErr-weaker c.take_rows.result _ (λ fault. LevelsStop bytes span way self.behind.levels fault ⊎ IsLogFault self.behind.logs.items fault)
+    (λ fault may. elim may [
+      | inl bad ↦ inl (subst (λ (b : Behind g.row.H.Denot). LevelsStop bytes span way b.levels fault) behind
+          (c.in_ok-sources.ensures.stops fault (c.in_ok-new.ensures.may_fail fault (c.new-visible.ensures.may_fail fault bad))))
+      | inr log ↦ inr (subst (λ (l : List (SealedLog g.row.H.Denot)). IsLogFault l fault) kept log)
+    ])
     c.take_rows.ensures.fault
