@@ -42,4 +42,4 @@ pub use laws::{
 };
 pub use order::first_out_of_order;
 pub use table::Table;
-pub use writer::{AddFail, TableWriter, Tail, tables_have_room};
+pub use writer::{AddFail, TableWriter, Tail, WriteFail, tables_have_room};
