@@ -37,6 +37,7 @@ map_both (e ∷ es) fs = ap (λ l. placed e ∷ l) (map_both es fs)
 pub not_refused : {A : Type 0} (fail : AddFail) (P : Type 0) → P → (IsErrOf {T = A} (Err fail) add.NotLawful ↔ (P → ⊥))
     → add_failed fail ≡ why.NotLawful → ⊥
 not_refused add.NoMemory P p iff is = cc
+not_refused add.TooLong P p iff is = cc
 not_refused add.NotLawful P p iff is = iff.0 refl p
 
 -- before the first of them

@@ -6,4 +6,5 @@ use Rattle.vl_table.specs.declared.writer.add_fail.AddFail.TheVariants as add
 
 abbrev pub add_failed : AddFail → StageFail
 add_failed add.NoMemory = NoMemory
+add_failed add.TooLong = NoMemory
 add_failed add.NotLawful = NotLawful

@@ -5,7 +5,7 @@ ghost use Rattle.vl_back.specs.declared.stage_fail.StageFail.TheVariants as why;
 use std::alloc::{AllocError, AllocFailed};
 use thiserror::Error;
 use vl_disk::NoMemory;
-use vl_table::AddFail;
+use vl_table::{AddFail, WriteFail};
 
 /// Why a flush wasn't staged.
 #[derive(Clone, Copy, Debug, PartialEq, Eq, Error)]
@@ -43,12 +43,20 @@ impl From<NoMemory> for StageFail {
     }
 }
 
+impl From<WriteFail> for StageFail {
+    ghost from_gives = { λ _ e. e ≡ why.NoMemory };
+
+    fn from(_: WriteFail) -> Self {
+        StageFail::NoMemory
+    }
+}
+
 impl From<AddFail> for StageFail {
     ghost from_gives = { λ fail e. e ≡ add_failed fail };
 
     fn from(fail: AddFail) -> Self {
         match fail {
-            AddFail::NoMemory => StageFail::NoMemory,
+            AddFail::NoMemory | AddFail::TooLong => StageFail::NoMemory,
             AddFail::NotLawful => StageFail::NotLawful,
         }
     }

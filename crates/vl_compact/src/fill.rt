@@ -266,6 +266,6 @@ fn refused(fail: AddFail) -> ReadFault
     ensures { result ≡ NoMemory }
 {
     match fail {
-        AddFail::NoMemory | AddFail::NotLawful => ReadFault::NoMemory,
+        AddFail::NoMemory | AddFail::TooLong | AddFail::NotLawful => ReadFault::NoMemory,
     }
 }

@@ -272,6 +272,37 @@ module _ (live : LiveTickets) (standing : ℕ → Option ℕ) (kept : IsKept liv
           none : 0 + uses n (without ticket live.tickets) ≡ uses n (without ticket live.tickets)
           none = omega arith
 
+-- what is taken out again leaves the others as they were
+without-put : (ticket number : ℕ) (live : List Ticket) → find nat_cmp ticket live ≡ None
+    → without ticket (put nat_cmp ticket number live) ≡ live
+without-put ticket number live none = by_list live none
+  where
+    tied : eq_by_cmp nat_cmp ticket ticket ≡ true
+    tied = grind (arith, nat_tests)
+
+    own : (ts : List Ticket) → without ticket ((ticket, number) ∷ ts) ≡ without ticket ts
+    own ts = ap (λ b. cond (not b) ((ticket, number) ∷ without ticket ts) (without ticket ts)) tied
+
+    by_list : (ts : List Ticket) → find nat_cmp ticket ts ≡ None → without ticket (put nat_cmp ticket number ts) ≡ ts
+    by_list [] is = own []
+    by_list (t ∷ ts) is = by_order_of (nat_cmp ticket t.0) refl (by_list ts) is
+      where
+        by_order_of : (r : Ordering) → nat_cmp ticket t.0 ≡ r
+            → (find nat_cmp ticket ts ≡ None → without ticket (put nat_cmp ticket number ts) ≡ ts)
+            → cond (is_eq r) (Some t.1) (find nat_cmp ticket ts) ≡ None
+            → without ticket (by_order r ((ticket, number) ∷ t ∷ ts) ((t.0, number) ∷ ts) (t ∷ put nat_cmp ticket number ts))
+            ≡ t ∷ ts
+        by_order_of Less order further none = own (t ∷ ts) ∙ without-none ticket (t ∷ ts) is
+        by_order_of Equal order further none = cc
+        by_order_of Greater order further none =
+            ap (λ (r : Ordering). cond (not (is_eq r)) (t ∷ without ticket (put nat_cmp ticket number ts))
+            (without ticket (put nat_cmp ticket number ts))) order
+            ∙ ap (λ (rest : List Ticket). t ∷ rest) (further none)
+
+pub ended-begun : (live : LiveTickets) → AreLive live → ended (free_ticket live) (begun live) ≡ live
+ended-begun live are = ap (λ (ts : List Ticket). record { last = live.last; tickets = ts })
+    (without-put (free_ticket live) live.last live.tickets (find-free_ticket live are.rising))
+
 -- ---- the floor
 
 low_of-without : (last ticket : ℕ) (live : List Ticket) → low_of last live ≤ low_of last (without ticket live)

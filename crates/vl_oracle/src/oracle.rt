@@ -59,6 +59,8 @@ impl Oracle {
         ensures err { OnErr result (self.new ≡ self.old) }
         ensures floor { floor_of self.old ≤ floor_of self.new }
         ensures floor_stays { floor_of self.new ≡ floor_of self.old }
+        // Where it ends again, all is as it was.
+        ensures undone { IfOk result (λ ticket. ended ticket self.new ≡ self.old) }
     {
         if self.live.len() >= MAX_LIVE as usize {
             return Err(BeginFail::TooMany);

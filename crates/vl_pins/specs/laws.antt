@@ -1,2 +1,3 @@
 -- Laws of pins, which proofs in other crates cite.
 pub mod PinLaws
+pub mod SameTickets

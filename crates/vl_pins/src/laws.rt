@@ -1,5 +1,5 @@
 // Laws of pins: each is the contract of a function that does nothing.
-ghost use Rattle.std.specs.Prelude.{◌≡◌, ◌≤◌, ℕ, nat_le, not};
+ghost use Rattle.std.specs.Prelude.{◌≡◌, ◌≤◌, ℕ, length, nat_le, not};
 ghost use Rattle.vl_engine_model.specs.Rising.{IsRising};
 ghost use Rattle.vl_engine_model.specs.Ruling.{ended};
 ghost use Rattle.vl_engine_model.specs.Rulings.Begin.{begun};
@@ -9,6 +9,7 @@ ghost use Rattle.vl_engine_model.specs.declared.file_name.Retired.{Retired};
 ghost use Rattle.vl_engine_model.specs.declared.layout.Layout.{Layout};
 ghost use Rattle.vl_oracle.specs.LiveTickets as oracle;
 ghost use Rattle.vl_pins.specs.Pins.{ArePinsOf, bound_of, raised};
+ghost use Rattle.vl_pins.specs.Same.{HaveSameTickets};
 ghost use Rattle.vl_pins.specs.declared.pins.Pins.{Pins};
 
 /// A pin holds a retired file exactly where the bound is below the epoch that its retirement made.
@@ -29,4 +30,15 @@ pub fn pins_are_those_of_what_lives()
           live = oracle.ended (oracle.free_ticket pins.live)
               (oracle.begun (raised l.epoch pins.live));
         }) l }
+{}
+
+/// Where two lists of what lives have the same tickets, the same ticket is free in both, and they have the same ones still behind
+/// what begins and ends in both.
+pub fn same_tickets_stay_the_same()
+    ensures free { (one other : oracle.LiveTickets) → HaveSameTickets one other → oracle.free_ticket one ≡ oracle.free_ticket other }
+    ensures many { (one other : oracle.LiveTickets) → HaveSameTickets one other → length one.tickets ≡ length other.tickets }
+    ensures begun { (one other : oracle.LiveTickets) → HaveSameTickets one other
+        → HaveSameTickets (oracle.begun one) (oracle.begun other) }
+    ensures ended { (one other : oracle.LiveTickets) (ticket : ℕ) → HaveSameTickets one other
+        → HaveSameTickets (oracle.ended ticket one) (oracle.ended ticket other) }
 {}

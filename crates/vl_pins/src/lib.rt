@@ -15,7 +15,9 @@ mod stock;
 mod trash;
 
 pub use in_use::InUse;
-pub use laws::{pins_are_those_of_what_lives, the_bound_tells_what_is_held};
+pub use laws::{
+    pins_are_those_of_what_lives, same_tickets_stay_the_same, the_bound_tells_what_is_held,
+};
 pub use pins::Pins;
 pub use retired_file::RetiredFile;
 pub use stock::Stock;

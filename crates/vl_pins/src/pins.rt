@@ -35,6 +35,8 @@ impl Pins {
             × (self.new ≡ record self.old { live = begun (raised epoch self.old.live) })) }
         ensures too_many { (result ≡ Err why.TooMany) ↔ (length self.old.live.tickets ≡ max_live) }
         ensures refused { OnErr result (self.new ≡ record self.old { live = raised epoch self.old.live }) }
+        // Where it ends again, only the epoch is noted.
+        ensures undone { IfOk result (λ ticket. ended ticket self.new.live ≡ raised epoch self.old.live) }
     {
         self.raise(epoch);
         self.live.begin()

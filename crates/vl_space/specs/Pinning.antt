@@ -7,7 +7,7 @@ use Rattle.vl_engine_model.specs.Tickets.{tickets_of}
 use Rattle.vl_engine_model.specs.declared.layout.Layout.{Layout}
 use Rattle.vl_engine_model.specs.declared.live.Live.{Live}
 use Rattle.vl_model.specs.Limits.{max_live}
-use Rattle.vl_oracle.specs.LiveTickets.{LiveTickets, begun, ended, free_ticket}
+use Rattle.vl_oracle.specs.LiveTickets.{LiveTickets, begun, ended}
 use Rattle.vl_oracle.specs.declared.begin_fail.BeginFail.{BeginFail}
 use Rattle.vl_pins.specs.Pins.{ArePinsOf, raised}
 use Rattle.vl_pins.specs.declared.pins.Pins.{Pins}
@@ -30,11 +30,10 @@ pinned_next version pins = record pins { live = begun (raised version pins.live)
 abbrev pub noted : ℕ → Pins → Pins
 noted version pins = record pins { live = raised version pins.live }
 
--- What begins pins it, where not too many are pinned already; and where it is refused what was pinned is given back.
+-- What begins pins it, where not too many are pinned already; and where it is refused the number is noted at most.
 abbrev pub PinsAs : {T : Type 0} → ℕ → (old new : Pins) → Result T BeginFail → Type 0
 PinsAs version old new (Ok given) = length old.live.tickets ≢ max_live → new ≡ pinned_next version old
-PinsAs version old new (Err why) =
-    (new ≡ old) ⊎ (new ≡ noted version old) ⊎ (new ≡ without_pin (Some (free_ticket old.live)) (pinned_next version old))
+PinsAs version old new (Err why) = (new ≡ old) ⊎ (new ≡ noted version old)
 
 module _ {L : Type 0} where
   -- what has this ticket pins nothing then

@@ -10,6 +10,7 @@ ghost use Rattle.vl_model.specs.Limits.{max_live};
 ghost use Rattle.vl_oracle.specs.LiveTickets.{begun, free_ticket};
 ghost use Rattle.vl_oracle.specs.declared.begin_fail.BeginFail.TheVariants as why;
 ghost use Rattle.vl_pins.specs.Pins.{ArePinsOf};
+ghost use Rattle.vl_pins.specs.Same.{HaveSameTickets};
 
 use vl_front::Front;
 use vl_oracle::BeginFail;
@@ -25,6 +26,8 @@ pub fn begin(front: &mut Front, pins: &mut Pins, epoch: u64) -> Result<u32, Begi
     ensures knows { (h : History) → Knows front.old h → Knows front.new h }
     ensures pruned { IsPruned front.old → IsPruned front.new }
     ensures pins { PinsAs epoch pins.old pins.new result }
+    // Where both have the same tickets they still do.
+    ensures same { HaveSameTickets front.old.oracle pins.old.live → HaveSameTickets front.new.oracle pins.new.live }
 
     // So it is pinned as a layout has it.
     ensures pinned { (l : Layout) (number : ℕ) → PinsLive front.old.oracle pins.old epoch l

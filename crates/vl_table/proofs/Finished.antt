@@ -1,5 +1,5 @@
 -- A table that is written to its end.
-use Rattle.std.specs.Prelude.{◌≡◌, ℕ, ◌+◌, ◌<◌, ◌^◌, Some, List, [], ◌∷◌, ◌++◌, length, map}
+use Rattle.std.specs.Prelude.{◌≡◌, ℕ, ◌+◌, ◌≤◌, ◌<◌, ◌^◌, Some, List, [], ◌∷◌, ◌++◌, length, map}
 use Rattle.std.proofs.Common.{ap, sym, subst, ◌∙◌, append-nil, append_assoc, arith}
 use Rattle.byteorder.specs.Endian.{big_bytes}
 use Rattle.vl_filter.specs.Filters.{marked_body, marked_bytes}
@@ -10,16 +10,16 @@ use Rattle.vl_frame.specs.laws.Laws.{length-frame_bytes}
 use Rattle.vl_frame.specs.declared.kinds.FrameKind.TheVariants as kinds
 use Rattle.vl_model.specs.Formats.{table_format}
 use Rattle.vl_model.specs.declared.entry.Entry.{Entry}
-use Rattle.vl_model.specs.Cutting.{blocks, file_length, filter_frame_length, index_frame_length, keys_of}
+use Rattle.vl_model.specs.Cutting.{blocks, file_length, filter_frame_length, index_frame_length, keys_of, table_length}
 use Rattle.vl_table.specs.body.Blocks.{block_body}
 use Rattle.vl_table.specs.body.Footer.{Foot, foot_of, footer_body}
 use Rattle.vl_table.specs.body.Index.{index_body}
 use Rattle.vl_table.specs.body.Bytes.{block_places, blocks_bytes, filter_bits, filter_bytes, filter_place, foot, IsTable}
 use Rattle.vl_table.specs.body.Bytes.{footer_bytes, footer_place, index_bytes, index_place, table_bytes, table_header}
 use Rattle.vl_table.specs.laws.Lengths.{length-filter_frame, length-footer, length-index}
-use Rattle.vl_table.specs.writer.Framing.{AreBehind, IsRest}
+use Rattle.vl_table.specs.writer.Framing.{AreBehind, StandsBehind, table_end}
 use Rattle.vl_table.specs.writer.Tails.{IsTail, tail_bytes}
-use Rattle.vl_table.specs.writer.Writing.{HasBlocks, IsWriting}
+use Rattle.vl_table.specs.writer.Writing.{HasBlocks, IsWriting, end_of}
 use Rattle.vl_table.proofs.Fits.{has_table}
 use Rattle.vl_table.proofs.Written.{closed_frame}
 use Rattle.vl_table.specs.declared.writer.blocks_writer.BlocksWriter.{BlocksWriter}
@@ -42,9 +42,17 @@ tail_whole t number es given is =
     ∙ ap (λ (l : List ℕ). l ++ rest) is.block
     ∙ append_assoc (table_header table_format number) (blocks_bytes table_format number 16 bs) rest
 
+-- where the blocks end without more
+pub blocks_too_long : (w : TableWriter) (number : ℕ) (es : List Entry) (given : List ℕ) (is : IsWriting w number es given)
+    → 2 ^ 32 ≤ end_of (is.closed ++ is.open_block ∷ []) → 2 ^ 32 ≤ table_length table_format es
+blocks_too_long w number es given is long =
+    let whole : blocks table_format es ≡ is.closed ++ is.open_block ∷ [] = ap (blocks table_format) (sym (append-nil es)) ∙ is.cut [] in
+    let end : 2 ^ 32 ≤ end_of (blocks table_format es) = subst (λ bs. 2 ^ 32 ≤ end_of bs) (sym whole) long in
+    omega (arith, end)
+
 module _ (w : TableWriter) (v : BlocksWriter) (r : Rest) (number : ℕ) (es : List Entry) (given : List ℕ)
     (is : IsWriting w number es given) (has : HasBlocks v (is.closed ++ is.open_block ∷ []) []) (same : v.number ≡ w.blocks.number)
-    (rest : IsRest v w.summary r) where
+    (rest : StandsBehind v w.summary r) where
   abbrev bs : List (List Entry)
   bs = is.closed ++ is.open_block ∷ []
 
@@ -90,26 +98,30 @@ module _ (w : TableWriter) (v : BlocksWriter) (r : Rest) (number : ℕ) (es : Li
   cut : blocks table_format es ≡ bs
   cut = ap (blocks table_format) (sym (append-nil es)) ∙ is.cut []
 
-  table : IsTable table_format number es
-  table =
-      has_table table_format number es is.fits (record { some = is.some; each = is.each; ordered = is.ordered })
-      (subst (λ (l : List (List Entry)). file_length table_format es l < 2 ^ 32) (sym cut)
-      (omega (
+  -- it ends where the layout says
+  pub ends_there : table_end r ≡ table_length table_format es
+  ends_there =
+      let there : table_end r ≡ file_length table_format es bs = omega (
         arith,
-        rest.short,
         rest.foot.stands,
         rest.foot.long,
         behind,
         ap (λ (f : Foot). length (footer_body f)) says,
         length-footer table_format number es bs,
         length-frame_bytes number (footer_place table_format es bs) kinds.Footer (footer_body (foot table_format es bs)),
-      )))
+      ) in
+      there ∙ ap (file_length table_format es) (sym cut)
+
+  table : table_end r < 2 ^ 32 → IsTable table_format number es
+  table short =
+      has_table table_format number es is.fits (record { some = is.some; each = is.each; ordered = is.ordered })
+      (subst (λ (n : ℕ). n < 2 ^ 32) ends_there short)
 
   -- The last block, index, filter, footer and its place, and what is known of the table.
-  pub ends : (t : Tail) (block : List ℕ) → block ≡ frame_bytes w.blocks.number w.blocks.place kinds.Block
+  pub ends : table_end r < 2 ^ 32 → (t : Tail) (block : List ℕ) → block ≡ frame_bytes w.blocks.number w.blocks.place kinds.Block
       (block_body table_format is.open_block)
       → AreBehind r block v t → IsTail t number es given
-  ends t block closed parts =
+  ends short t block closed parts =
       let frame = frame_bytes w.blocks.number w.blocks.place kinds.Block (block_body table_format is.open_block) in
       let before = blocks_bytes table_format number 16 is.closed in
       let head = table_header table_format number in
@@ -137,7 +149,7 @@ module _ (w : TableWriter) (v : BlocksWriter) (r : Rest) (number : ℕ) (es : Li
         written = parts.written;
         shape = record {
           numbered = parts.number ∙ numbered;
-          table = subst (λ (n : ℕ). IsTable n number es) formats table;
+          table = subst (λ (n : ℕ). IsTable n number es) formats (table short);
           foot = parts.says ∙ says ∙ ap (foot table_format es) back ∙ ap (λ (n : ℕ). foot n es (blocks n es)) formats;
           place = parts.stands ∙ of_place ∙ ap (footer_place table_format es) back
               ∙ ap (λ (n : ℕ). footer_place n es (blocks n es)) formats;

@@ -1,8 +1,9 @@
 -- How what is written grows.
 use Rattle.vl_model.specs.Formats.{table_format}
-use Rattle.std.specs.Prelude.{◌≡◌, ℕ, ◌≤◌, ◌<◌, ◌^◌, ◌+◌, max, Bool, true, false, nat_le, if◌then◌else◌, List, [], ◌∷◌, ◌++◌, length, map}
+use Rattle.std.specs.Prelude.{◌≡◌, ℕ, ◌≤◌, ◌<◌, ◌^◌, ◌+◌, max, ◌-◌, not, Bool, true, false, nat_le, if◌then◌else◌, List, [], ◌∷◌, ◌++◌, length, map}
 use Rattle.std.specs.List.{sum_by}
 use Rattle.std.proofs.Common.{cond, refl, ap, sym, subst, ◌∙◌, length-append, append-nil, append_assoc, arith}
+use Rattle.std.proofs.lemmas.Bool.Decides.{nat_tests}
 use Rattle.std.proofs.lemmas.List.Sums.{sum_by-cons}
 use Rattle.vl_frame.specs.Frame.{frame_bytes}
 use Rattle.vl_frame.specs.declared.kinds.FrameKind.TheVariants as kinds
@@ -22,7 +23,7 @@ use Rattle.vl_table.specs.declared.body.index.BlockPlace.{BlockPlace}
 use Rattle.vl_table.specs.body.Bytes.{block_places, blocks_bytes, greatest_version, table_header}
 use Rattle.vl_table.specs.laws.Lengths.{length-block_body}
 use Rattle.vl_table.specs.laws.Places.{blocks-split}
-use Rattle.vl_table.specs.writer.Writing.{HasBlocks, HasRoom, IsWriting, MayCome, Sums}
+use Rattle.vl_table.specs.writer.Writing.{HasBlocks, HasRoom, IsWriting, MayCome, Sums, blocks_end, end_of}
 use Rattle.vl_table.proofs.Behind.{in_order-push}
 use Rattle.vl_table.specs.declared.writer.summary.Summary.{Summary}
 use Rattle.vl_table.specs.declared.writer.table_writer.TableWriter.{TableWriter}
@@ -126,6 +127,56 @@ body-push open_block e = omega
     entries-push [] e = omega (arith, sum_by-cons (entry_length table_format) e [])
     entries-push (d ∷ es) e = omega
         (arith, sum_by-cons (entry_length table_format) d (es ++ e ∷ []), sum_by-cons (entry_length table_format) d es, entries-push es e)
+
+-- where the blocks end with an entry in the open one
+pub full_is : (closed : List (List Entry)) (open_block : List Entry) (e : Entry) (place n end : ℕ)
+    → place ≡ 16 + sum_by (block_frame_length table_format) closed → n ≡ length (block_body table_format open_block)
+    → end ≡ place + (n + 13) → end_of (closed ++ (open_block ++ e ∷ []) ∷ []) ≡ end + entry_length table_format e
+full_is closed open_block e place n end at long is =
+    omega (
+      arith,
+      at,
+      long,
+      is,
+      sum-push closed (open_block ++ e ∷ []),
+      body-push open_block e,
+      length-block_body table_format open_block,
+      length-block_body table_format (open_block ++ e ∷ []),
+    )
+
+pub past_end : (end m total : ℕ) → total ≡ end + m → 4294967295 < end → true ≡ nat_le (2 ^ 32) total
+past_end end m total is past = grind (arith, nat_tests, is, past)
+
+pub up_to_end : (end m total : ℕ) → total ≡ end + m → end ≤ 4294967295 → not (nat_le m (4294967295 - end)) ≡ nat_le (2 ^ 32) total
+up_to_end end m total is low = grind (arith, nat_tests, is, low)
+
+pub is_short : (total : ℕ) → nat_le (2 ^ 32) total ≡ false → total < 2 ^ 32
+is_short total is = grind (arith, nat_tests, is)
+
+pub is_long : (total : ℕ) → nat_le (2 ^ 32) total ≡ true → 2 ^ 32 ≤ total
+is_long total is = grind (arith, nat_tests, is)
+
+-- where they end if the open block is closed before the entry
+pub full_end : (w : TableWriter) (number : ℕ) (es : List Entry) (given : List ℕ) (e : Entry) → (is : IsWriting w number es given)
+    → nat_le (length (block_body table_format is.open_block) + entry_length table_format e) max_block_bytes ≡ false
+    → end_of (is.closed ++ is.open_block ∷ []) ≤ blocks_end (es ++ e ∷ [])
+full_end w number es given e is full =
+    let cut : blocks table_format (es ++ e ∷ []) ≡ (is.closed ++ is.open_block ∷ []) ++ (e ∷ []) ∷ [] =
+    is.cut (e ∷ []) ∙ ap (λ l. is.closed ++ l)
+    (not_chosen (nat_le (length (block_body table_format is.open_block) + entry_length table_format e) max_block_bytes)
+    (blocks_from table_format (is.open_block ++ e ∷ [])
+    (length (block_body table_format is.open_block) + entry_length table_format e) []) (is.open_block ∷ (e ∷ []) ∷ []) full)
+    ∙ sym (append_assoc is.closed (is.open_block ∷ []) ((e ∷ []) ∷ [])) in
+    omega (
+      arith,
+      ap (λ bs. sum_by (block_frame_length table_format) bs) cut,
+      sum-push (is.closed ++ is.open_block ∷ []) (e ∷ []),
+    )
+
+-- and where the open block has room for it
+pub room_end : (w : TableWriter) (number : ℕ) (es : List Entry) (given : List ℕ) (e : Entry) → (room : HasRoom w number es given e)
+    → end_of (room.closed ++ (room.open_block ++ e ∷ []) ∷ []) ≡ blocks_end (es ++ e ∷ [])
+room_end w number es given e room = ap end_of (sym (room.cut []))
 
 -- the entry goes into the open block
 pub stays_open : (w : TableWriter) (number : ℕ) (es : List Entry) (given : List ℕ) (e : Entry) → (is : IsWriting w number es given)

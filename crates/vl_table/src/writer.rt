@@ -22,8 +22,10 @@ mod points;
 mod summary;
 mod table_writer;
 mod tail;
+mod write_fail;
 
 pub use add_fail::AddFail;
 pub use laws::tables_have_room;
 pub use table_writer::TableWriter;
 pub use tail::Tail;
+pub use write_fail::WriteFail;

@@ -2,7 +2,10 @@
 use Rattle.std.specs.Prelude.{◌≡◌, ℕ, length, IsErrAnd, Some, Result, Ok, Err}
 use Rattle.std.proofs.Common.{sym, ap, subst, ◌∙◌}
 use Rattle.std.proofs.lemmas.List.{length-map}
-use Rattle.vl_space.specs.Pinning.{PinsAs, PinsLive, without_pin}
+use Rattle.vl_front.specs.declared.front.Front.{Front}
+use Rattle.vl_pins.specs.Same.{HaveSameTickets, tickets_in}
+use Rattle.vl_pins.specs.laws.SameTickets.{same_begun}
+use Rattle.vl_space.specs.Pinning.{PinsAs, PinsLive, noted, pinned_next, without_pin}
 use Rattle.vl_engine_model.specs.Rulings.Begin.{begun as begun_there}
 use Rattle.vl_engine_model.specs.Tickets as tickets
 use Rattle.vl_engine_model.specs.Tickets.{tickets_of}
@@ -45,6 +48,26 @@ module _ (live : LiveTickets) (pins : Pins) (version : ℕ) (l : Layout) (is : P
       (sym (then_is ∙ ap (λ (p : Pins). record p { live = ended ticket p.live }) (same ∙ ap pinned_at is.version_is)
       ∙ ap (λ (t : ℕ). record pins { live = ended t (begun (raised l.epoch pins.live)) }) free))
       (pins_begun_ended pins l is.pins_are is.rising)
+
+-- Over any layout: where what was pinned is given back, the number is noted,
+pub undone_so : (pins : Pins) (version : ℕ) (mid : Pins) (ticket : ℕ) → mid ≡ pinned_next version pins
+    → ended ticket mid.live ≡ raised version pins.live → without_pin (Some ticket) mid ≡ noted version pins
+undone_so pins version mid ticket same back =
+    ap (λ (p : Pins). record p { live = ended ticket mid.live }) same
+    ∙ ap (λ (live : LiveTickets). record pins { live = live }) back
+
+-- both have the same tickets where it began in both,
+pub both_begun : (live : LiveTickets) (pins : Pins) (version : ℕ) (now : LiveTickets) (new : Pins) → HaveSameTickets live pins.live
+    → now ≡ begun live → new ≡ pinned_next version pins → HaveSameTickets now new.live
+both_begun live pins version now new same began pinned =
+    ap (λ (l : LiveTickets). tickets_in l.tickets) began ∙ same_begun live (raised version pins.live) same
+    ∙ sym (ap (λ (p : Pins). tickets_in p.live.tickets) pinned)
+
+-- and where it began in neither.
+pub still_same : (now : Front) (front : Front) (pins : Pins) (version : ℕ) (new : Pins) → HaveSameTickets front.oracle pins.live
+    → now ≡ front → new ≡ noted version pins → HaveSameTickets now.oracle new.live
+still_same now front pins version new same alike is =
+    ap (λ (f : Front). tickets_in f.oracle.tickets) alike ∙ same ∙ sym (ap (λ (p : Pins). tickets_in p.live.tickets) is)
 
 -- It is the same refusal that is handed on.
 pub refused_pins : {U : Type 0} (version : ℕ) (old new : Pins) (result : Result U BeginFail) (why : BeginFail)

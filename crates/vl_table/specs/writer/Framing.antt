@@ -1,5 +1,5 @@
 -- The frames that stand behind a table's blocks, each by itself.
-use Rattle.std.specs.Prelude.{◌≡◌, ◌+◌, ◌<◌, ◌^◌, ℕ, Some, List, length}
+use Rattle.std.specs.Prelude.{◌≡◌, ◌≤◌, ◌+◌, ◌<◌, ◌^◌, ℕ, Some, List, length}
 use Rattle.byteorder.specs.Endian.{big_bytes}
 use Rattle.vl_filter.specs.Filters.{marked_body, marked_bytes}
 use Rattle.vl_frame.specs.Frame.{frame_bytes, frame_length}
@@ -21,8 +21,8 @@ pub record IsFramed (number place : ℕ) (kind : FrameKind) (body : List ℕ) (f
   pub long : f.at.length ≡ frame_length (length body)
   pub bytes : f.bytes.items ≡ frame_bytes number place kind body
 
--- Index, filter and footer, one behind the other behind these blocks, and what they say: in all they have less than 2^32 bytes.
-pub record IsRest (b : BlocksWriter) (s : Summary) (r : Rest) : Type 0 where
+-- Index, filter and footer, one behind the other behind these blocks, and what they say.
+pub record StandsBehind (b : BlocksWriter) (s : Summary) (r : Rest) : Type 0 where
   pub index : IsFramed b.number b.place kinds.Index (index_body b.closed.items) r.index
   pub filter : IsFramed b.number (b.place + r.index.at.length) kinds.Filter (marked_body s.keys.items) r.filter
   pub bits : r.bits.items ≡ marked_bytes s.keys.items
@@ -40,7 +40,21 @@ pub record IsRest (b : BlocksWriter) (s : Summary) (r : Rest) : Type 0 where
   }
   pub foot : IsFramed b.number (b.place + r.index.at.length + r.filter.at.length) kinds.Footer
       (footer_body (foot_of r.footer)) r.foot
-  pub short : r.foot.at.place + r.foot.at.length + 8 < 2 ^ 32
+
+-- Where the table ends with these: behind the footer comes its place.
+abbrev pub table_end : Rest → ℕ
+table_end r = r.foot.at.place + r.foot.at.length + 8
+
+-- The same, and in all there are less than 2^32 bytes.
+pub record IsRest (b : BlocksWriter) (s : Summary) (r : Rest) : Type 0 where
+  pub stands : StandsBehind b s r
+  pub short : table_end r < 2 ^ 32
+
+-- Such would be more.
+pub record IsTooLong (b : BlocksWriter) (s : Summary) : Type 0 where
+  pub rest : Rest
+  pub stands : StandsBehind b s rest
+  pub long : 2 ^ 32 ≤ table_end rest
 
 -- the pieces are the last block's frame and these, and the shape says what they do
 pub record AreBehind (r : Rest) (last : List ℕ) (b : BlocksWriter) (t : Tail) : Type 0 where

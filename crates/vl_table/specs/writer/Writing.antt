@@ -16,6 +16,14 @@ use Rattle.vl_table.specs.declared.writer.blocks_writer.BlocksWriter.{BlocksWrit
 use Rattle.vl_table.specs.declared.writer.summary.Summary.{Summary}
 use Rattle.vl_table.specs.declared.writer.table_writer.TableWriter.{TableWriter}
 
+-- where these blocks end, behind a table's header
+abbrev pub end_of : List (List Entry) → ℕ
+end_of bs = 16 + sum_by (block_frame_length table_format) bs
+
+-- where the blocks of a table with these entries end
+abbrev pub blocks_end : List Entry → ℕ
+blocks_end es = end_of (blocks table_format es)
+
 -- these blocks were closed, and the open one has these entries
 pub record HasBlocks (w : BlocksWriter) (closed : List (List Entry)) (open_block : List Entry) : Type 0 where
   pub place : w.place ≡ 16 + sum_by (block_frame_length table_format) closed

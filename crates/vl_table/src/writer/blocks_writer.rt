@@ -1,5 +1,5 @@
 ghost use Rattle.vl_model.specs.Formats.{table_format};
-ghost use Rattle.std.specs.Prelude.{◌≡◌, ◌≤◌, ◌<◌, ◌^◌, ◌+◌, ◌++◌, ◌∷◌, [], nat_le, List, length, IfOk, OnOk};
+ghost use Rattle.std.specs.Prelude.{◌≡◌, ◌≤◌, ◌<◌, ◌^◌, ◌+◌, ◌++◌, ◌∷◌, [], nat_le, List, length, IfOk, IsErrOf, OnOk};
 ghost use Rattle.std.specs.List.{sum_by};
 ghost use Rattle.vl_frame.specs.Frame.{frame_bytes};
 ghost use Rattle.vl_frame.specs.declared.kinds.FrameKind.TheVariants as kinds;
@@ -7,9 +7,11 @@ ghost use Rattle.vl_model.specs.declared.entry.Entry.{Entry};
 ghost use Rattle.vl_model.specs.Cutting.{block_frame_length, body_length, entry_length, last_key, max_block_bytes};
 ghost use Rattle.vl_table.specs.body.Blocks.{block_body};
 ghost use Rattle.vl_table.specs.body.Entries.{IsEntry};
+ghost use Rattle.vl_table.specs.declared.writer.write_fail.WriteFail.TheVariants as why;
 
 use crate::body::BlockPlace;
 use crate::writer::block_writer::BlockWriter;
+use crate::writer::write_fail::WriteFail;
 use std::alloc::{AllocError, Global};
 use vl_frame::{FRAME_BYTES, HEADER_BYTES};
 use vl_model::{Body, Entry, Key, is_key_len};
@@ -32,7 +34,7 @@ pub struct BlocksWriter {
 }
 
 impl BlocksWriter {
-    ghost use Rattle.vl_table.specs.writer.Writing.{HasBlocks};
+    ghost use Rattle.vl_table.specs.writer.Writing.{HasBlocks, end_of};
 
     pub fn new(alloc: Global, number: u32) -> Result<Self, AllocError>
         ensures blocks { IfOk result (λ w. HasBlocks w [] []) }
@@ -63,6 +65,18 @@ impl BlocksWriter {
         self.place - HEADER_BYTES as u64 + (self.written.len() + FRAME_BYTES) as u64
     }
 
+    /// Whether the blocks end at 2^32 or behind it with an entry in the open one.
+    pub fn is_full(&self, entry: &Entry) -> bool
+        ensures { (closed : List (List Entry)) (open_block : List Entry) → HasBlocks self.now closed open_block
+            → result ≡ nat_le (2 ^ 32) (end_of (closed ++ (open_block ++ entry.now ∷ []) ∷ [])) }
+    {
+        let end = self.place + (self.written.len() + FRAME_BYTES) as u64;
+        if end > MAX_PLACE {
+            return true;
+        }
+        !fits(entry, (MAX_PLACE - end) as usize)
+    }
+
     /// Adds an entry that a table may have to the open block.
     pub fn add(&mut self, entry: &Entry) -> Result<(), AllocError>
         requires { IsEntry table_format entry.now }
@@ -73,19 +87,20 @@ impl BlocksWriter {
         self.written.add(entry)
     }
 
-    /// Appends the frame of the open block, whose last key this is, and opens one without entries. Want of memory is the
-    /// answer too where the blocks would reach 2^32 bytes.
-    pub fn close(&mut self, out: &mut Vec<u8>, last: &Key) -> Result<(), AllocError>
+    /// Appends the frame of the open block, whose last key this is, and opens one without entries.
+    pub fn close(&mut self, out: &mut Vec<u8>, last: &Key) -> Result<(), WriteFail>
         ensures blocks { (closed : List (List Entry)) (open_block : List Entry) → HasBlocks self.old closed open_block
             → last.now ≡ last_key open_block → OnOk result (HasBlocks self.new (closed ++ open_block ∷ []) []) }
         ensures number { self.new.number ≡ self.old.number }
         ensures written { (closed : List (List Entry)) (open_block : List Entry) → HasBlocks self.old closed open_block
             → OnOk result (out.new.items ≡ out.old.items
             ++ frame_bytes self.old.number self.old.place kinds.Block (block_body table_format open_block)) }
+        ensures too_long { (closed : List (List Entry)) (open_block : List Entry) → HasBlocks self.old closed open_block
+            → IsErrOf result why.TooLong → 2 ^ 32 ≤ end_of (closed ++ open_block ∷ []) }
     {
         let length = self.written.append_frame(out, self.number, self.place)?;
         if self.place > MAX_PLACE - length as u64 {
-            return Err(AllocError);
+            return Err(WriteFail::TooLong);
         }
         self.closed.push(BlockPlace {
             place: self.place,

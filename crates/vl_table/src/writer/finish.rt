@@ -1,16 +1,18 @@
 //! How a table is written to its end: what stands behind its blocks.
 
-ghost use Rattle.std.specs.Prelude.{◌≡◌, IfOk};
+ghost use Rattle.std.specs.Prelude.{◌≡◌, IfOk, IsErrOf};
 ghost use Rattle.byteorder.specs.Endian.{big_bytes};
-ghost use Rattle.vl_table.specs.writer.Framing.{AreBehind, IsRest};
+ghost use Rattle.vl_table.specs.declared.writer.write_fail.WriteFail.TheVariants as why;
+ghost use Rattle.vl_table.specs.writer.Framing.{AreBehind, IsRest, IsTooLong};
 
 use crate::body::{Footer, TableShape};
 use crate::writer::blocks_writer::BlocksWriter;
 use crate::writer::framed::Framed;
 use crate::writer::summary::Summary;
 use crate::writer::tail::Tail;
+use crate::writer::write_fail::WriteFail;
 use byteorder::{BigEndian, ByteOrder};
-use std::alloc::{AllocError, Global};
+use std::alloc::Global;
 use vl_model::TABLE_FORMAT;
 
 // The bytes of the footer's place at the end.
@@ -32,10 +34,10 @@ pub struct Rest {
 }
 
 impl Rest {
-    /// Behind these blocks, of which none is open. Want of memory is the answer too where the table would have 2^32 bytes or
-    /// more.
-    pub fn of(alloc: Global, blocks: &BlocksWriter, summary: Summary) -> Result<Self, AllocError>
-        ensures { IfOk result (IsRest blocks.now summary) }
+    /// Behind these blocks, of which none is open. No frame alone can be too long, since the blocks are not.
+    pub fn of(alloc: Global, blocks: &BlocksWriter, summary: Summary) -> Result<Self, WriteFail>
+        ensures rest { IfOk result (IsRest blocks.now summary) }
+        ensures too_long { IsErrOf result why.TooLong → IsTooLong blocks.now summary }
     {
         let index = Framed::index(alloc, blocks)?;
         let place = blocks.place + index.at.length as u64;
@@ -44,7 +46,7 @@ impl Rest {
         let footer = summary.footer(alloc, filter.at, index.at)?;
         let foot = Framed::footer(alloc, blocks.number, place, &footer)?;
         if foot.at.place + foot.at.length as u64 + PLACE_BYTES > MAX_TABLE_BYTES {
-            return Err(AllocError);
+            return Err(WriteFail::TooLong);
         }
         Ok(Rest {
             index,

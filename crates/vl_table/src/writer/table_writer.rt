@@ -1,12 +1,13 @@
 ghost use Rattle.vl_model.specs.Formats.{table_format};
-ghost use Rattle.std.specs.Prelude.{◌≡◌, ◌↔◌, ◌++◌, ◌∷◌, [], ℕ, List, Err, IfOk, IsTrue, OnOk};
+ghost use Rattle.std.specs.Prelude.{◌≡◌, ◌≤◌, ◌<◌, ◌^◌, ◌↔◌, ◌++◌, ◌∷◌, [], ℕ, List, Err, IfOk, IsErrOf, IsTrue, OnOk};
 ghost use Rattle.std.specs.List.{sum_by};
 ghost use Rattle.vl_model.specs.declared.entry.Entry.{Entry};
 ghost use Rattle.vl_table.specs.body.Bytes.{table_bytes, table_header};
-ghost use Rattle.vl_model.specs.Cutting.{block_frame_length, blocks};
+ghost use Rattle.vl_model.specs.Cutting.{block_frame_length, blocks, table_length};
 ghost use Rattle.vl_table.specs.body.Entries.{IsEntry};
 ghost use Rattle.vl_table.specs.writer.Tails.{IsTail, tail_bytes};
-ghost use Rattle.vl_table.specs.writer.Writing.{Appended, HasRoom, IsWriting, MayCome};
+ghost use Rattle.vl_table.specs.declared.writer.write_fail.WriteFail.TheVariants as why;
+ghost use Rattle.vl_table.specs.writer.Writing.{Appended, HasRoom, IsWriting, MayCome, blocks_end};
 
 use crate::writer::add_fail::AddFail;
 use crate::writer::blocks_writer::BlocksWriter;
@@ -14,6 +15,7 @@ use crate::writer::finish::Rest;
 use crate::writer::lawful::is_lawful;
 use crate::writer::summary::Summary;
 use crate::writer::tail::Tail;
+use crate::writer::write_fail::WriteFail;
 use std::alloc::{AllocError, Global};
 use vl_frame::{FileKind, file_header};
 use vl_model::{Entry, TABLE_FORMAT};
@@ -38,6 +40,7 @@ impl TableWriter {
         ensures header { OnOk result (out.new.items ≡ out.old.items ++ table_header table_format number) }
         ensures begun { IfOk result (λ w. IsWriting w number (first.now ∷ []) (table_header table_format number)) }
         ensures refused { (result ≡ Err AddFail.NotLawful) ↔ ¬ IsEntry table_format first.now }
+        ensures short { IsErrOf result AddFail.TooLong → ⊥ }
     {
         if !is_lawful(first) {
             return Err(AddFail::NotLawful);
@@ -65,6 +68,12 @@ impl TableWriter {
             (λ piece. IsWriting self.new number (es ++ entry.now ∷ []) (given ++ piece))) }
         ensures refused { (number : ℕ) (es : List Entry) (given : List ℕ) → IsWriting self.old number es given
             → ((result ≡ Err AddFail.NotLawful) ↔ ¬ MayCome es entry.now) }
+
+        // It is too long exactly where the blocks would end at 2^32 or behind it, unless memory runs out.
+        ensures too_long { (number : ℕ) (es : List Entry) (given : List ℕ) → IsWriting self.old number es given
+            → IsErrOf result AddFail.TooLong → MayCome es entry.now × (2 ^ 32 ≤ blocks_end (es ++ entry.now ∷ [])) }
+        ensures short { (number : ℕ) (es : List Entry) (given : List ℕ) → IsWriting self.old number es given
+            → OnOk result (blocks_end (es ++ entry.now ∷ []) < 2 ^ 32) }
     {
         if !self.may_come(entry) {
             return Err(AddFail::NotLawful);
@@ -82,22 +91,32 @@ impl TableWriter {
     }
 
     // Adds an entry that may come.
-    fn put(&mut self, out: &mut Vec<u8>, entry: &Entry) -> Result<(), AllocError>
+    fn put(&mut self, out: &mut Vec<u8>, entry: &Entry) -> Result<(), WriteFail>
         requires { IsEntry table_format entry.now }
-        ensures { (number : ℕ) (es : List Entry) (given : List ℕ) → IsWriting self.old number es given → MayCome es entry.now
+        ensures put { (number : ℕ) (es : List Entry) (given : List ℕ) → IsWriting self.old number es given → MayCome es entry.now
             → OnOk result (Appended out.old.items out.new.items
             (λ piece. IsWriting self.new number (es ++ entry.now ∷ []) (given ++ piece))) }
+        ensures too_long { (number : ℕ) (es : List Entry) (given : List ℕ) → IsWriting self.old number es given
+            → IsErrOf result why.TooLong → 2 ^ 32 ≤ blocks_end (es ++ entry.now ∷ []) }
+        ensures short { (number : ℕ) (es : List Entry) (given : List ℕ) → IsWriting self.old number es given
+            → OnOk result (blocks_end (es ++ entry.now ∷ []) < 2 ^ 32) }
     {
         self.make_room(out, entry)?;
+        if self.blocks.is_full(entry) {
+            return Err(WriteFail::TooLong);
+        }
         self.blocks.add(entry)?;
-        self.summary.add(entry)
+        self.summary.add(entry)?;
+        Ok(())
     }
 
     // Closes the open block where it has no room for an entry.
-    fn make_room(&mut self, out: &mut Vec<u8>, entry: &Entry) -> Result<(), AllocError>
-        ensures { (number : ℕ) (es : List Entry) (given : List ℕ) → IsWriting self.old number es given
+    fn make_room(&mut self, out: &mut Vec<u8>, entry: &Entry) -> Result<(), WriteFail>
+        ensures room { (number : ℕ) (es : List Entry) (given : List ℕ) → IsWriting self.old number es given
             → OnOk result (Appended out.old.items out.new.items
             (λ piece. HasRoom self.new number es (given ++ piece) entry.now)) }
+        ensures too_long { (number : ℕ) (es : List Entry) (given : List ℕ) → IsWriting self.old number es given
+            → IsErrOf result why.TooLong → 2 ^ 32 ≤ blocks_end (es ++ entry.now ∷ []) }
     {
         if self.blocks.has_room(entry) {
             return Ok(());
@@ -113,15 +132,20 @@ impl TableWriter {
         self.blocks.bytes()
     }
 
-    /// Ends the table, and hands out the rest of it. Want of memory is the answer too where the table would have 2^32 bytes
-    /// or more.
-    pub fn finish(self, alloc: Global) -> Result<Tail, AllocError>
+    /// Ends the table, and hands out the rest of it.
+    pub fn finish(self, alloc: Global) -> Result<Tail, WriteFail>
         ensures tail { (number : ℕ) (es : List Entry) (given : List ℕ) → IsWriting self number es given
             → IfOk result (λ tail. IsTail tail number es given) }
 
         // So these are all its bytes.
         ensures whole { (number : ℕ) (es : List Entry) (given : List ℕ) → IsWriting self number es given
             → IfOk result (λ tail. given ++ tail_bytes tail ≡ table_bytes table_format number es) }
+
+        // It is too long exactly where it would have 2^32 bytes or more, unless memory runs out.
+        ensures too_long { (number : ℕ) (es : List Entry) (given : List ℕ) → IsWriting self number es given
+            → IsErrOf result why.TooLong → 2 ^ 32 ≤ table_length table_format es }
+        ensures short { (number : ℕ) (es : List Entry) (given : List ℕ) → IsWriting self number es given
+            → OnOk result (table_length table_format es < 2 ^ 32) }
     {
         let TableWriter {
             mut blocks,

@@ -1,7 +1,8 @@
-use Rattle.std.proofs.Common.{sym, ap, ◌∙◌, inl, inr, Option, Some}
-use Rattle.vl_space.specs.laws.Pinned.{begun_so, raised_so, same_count, unpinned_so}
+use Rattle.std.proofs.Common.{sym, ap, ◌∙◌, inl, inr, Option}
+use Rattle.vl_pins.specs.laws.SameTickets.{same_many}
+use Rattle.vl_space.specs.laws.Pinned.{begun_so, both_begun, raised_so, same_count, still_same, undone_so, unpinned_so}
 use Rattle.std.specs.Prelude.{ℕ}
-use Rattle.vl_space.specs.Pinning.{pinned_next, without_pin}
+use Rattle.vl_space.specs.Pinning.{without_pin}
 use Rattle.vl_space.proofs.pin.begin.Goals.{in-Ok, in-Err-TooMany}
 use Rattle.vl_space.proofs.pin.begin.Goals as goal
 
@@ -33,9 +34,27 @@ returns-in-Ok-begin-clause-pins c =
 pub returns-in-Err-clause-pins : goal.returns-in-Err-clause-pins
 returns-in-Err-clause-pins c =
     elim c.match-begin.branch [
-      | in-Ok w ↦ inr (inr (c.unpin.ensures ∙ ap (λ (o : Option ℕ). without_pin o c.begin.new.self) w.pinned-is
-          ∙ ap (without_pin (Some w.in-Ok.ticket)) w.in-Ok.ensures.begun.1
-          ∙ ap (λ (t : ℕ). without_pin (Some t) (pinned_next c.args.epoch c.args.pins.now)) w.in-Ok.ensures.begun.0))
-      | in-Err-TooMany w ↦ inr (inl (c.unpin.ensures ∙ ap (λ (o : Option ℕ). without_pin o c.begin.new.self) w.pinned-is
-          ∙ w.in-Err-TooMany.ensures.refused))
+      | in-Ok w ↦ inr (c.unpin.ensures ∙ ap (λ (o : Option ℕ). without_pin o c.begin.new.self) w.pinned-is
+          ∙ undone_so c.args.pins.now c.args.epoch c.begin.new.self w.in-Ok.ticket w.in-Ok.ensures.begun.1 w.in-Ok.ensures.undone)
+      | in-Err-TooMany w ↦ inr (c.unpin.ensures ∙ ap (λ (o : Option ℕ). without_pin o c.begin.new.self) w.pinned-is
+          ∙ w.in-Err-TooMany.ensures.refused)
+    ]
+
+pub returns-in-Ok-begin-clause-same : goal.returns-in-Ok-begin-clause-same
+returns-in-Ok-begin-clause-same c same =
+    elim c.match-begin.branch [
+      | in-Ok w ↦ both_begun c.args.front.now.oracle c.args.pins.now c.args.epoch _ c.begin.new.self same
+          c.in-Ok-begin.ensures.ok.1 w.in-Ok.ensures.begun.1
+      | in-Err-TooMany w ↦ absurd (let refused = c.in-Ok-begin.ensures.too_many.1
+          (same_many c.args.front.now.oracle c.args.pins.now.live same ∙ w.in-Err-TooMany.ensures.too_many.0 (cc)) in cc)
+    ]
+
+pub returns-in-Err-clause-same : goal.returns-in-Err-clause-same
+returns-in-Err-clause-same c same =
+    elim c.match-begin.branch [
+      | in-Ok w ↦ still_same _ c.args.front.now c.args.pins.now c.args.epoch c.unpin.new.pins same c.in-Err.ensures.err
+          (c.unpin.ensures ∙ ap (λ (o : Option ℕ). without_pin o c.begin.new.self) w.pinned-is
+          ∙ undone_so c.args.pins.now c.args.epoch c.begin.new.self w.in-Ok.ticket w.in-Ok.ensures.begun.1 w.in-Ok.ensures.undone)
+      | in-Err-TooMany w ↦ still_same _ c.args.front.now c.args.pins.now c.args.epoch c.unpin.new.pins same c.in-Err.ensures.err
+          (c.unpin.ensures ∙ ap (λ (o : Option ℕ). without_pin o c.begin.new.self) w.pinned-is ∙ w.in-Err-TooMany.ensures.refused)
     ]

@@ -4,9 +4,10 @@ use Rattle.std.specs.FinMap.{is_sorted}
 use Rattle.std.specs.List.{insert}
 use Rattle.std.specs.BTreeMap.{get}
 use Rattle.vl_model.specs.Limits.{max_live}
-use Rattle.vl_oracle.specs.LiveTickets.{LiveTickets, Ticket, begun, free_from, free_ticket, floor_of}
+use Rattle.vl_oracle.specs.LiveTickets.{LiveTickets, Ticket, begun, ended, free_from, free_ticket, floor_of}
 use Rattle.vl_oracle.specs.Counts.{IsKept}
-use Rattle.vl_oracle.proofs.Tickets.{kept-begun, kept-undone, floor-begun, floor-begun-same, few_uses, free_below}
+use Rattle.vl_oracle.proofs.Tickets.{kept-begun, kept-undone, ended-begun, floor-begun, floor-begun-same}
+use Rattle.vl_oracle.proofs.Tickets.{few_uses, free_below}
 use Rattle.vl_oracle.proofs.LiveLaws.{as_T}
 use Rattle.vl_oracle.proofs.Places.{insert-free}
 use Rattle.vl_oracle.proofs.oracle.Oracle.begin.Goals as goal
@@ -83,3 +84,12 @@ returns-in-Ok-clause-floor_stays c =
     let floors = floor-begun-same live c.self.invariant.are after.are in
     subst (λ (ts : List Ticket). floor_of (record { last = live.last; tickets = ts }) ≡ floor_of c.args.self.now) (sym entries)
     (subst (λ (l : LiveTickets). floor_of (begun live) ≡ floor_of l) c.self.view_is floors)
+
+pub returns-in-Ok-clause-undone : goal.returns-in-Ok-clause-undone
+returns-in-Ok-clause-undone c =
+    let live : LiveTickets = record { last = c.self.inside.last; tickets = c.self.inside.live.items } in
+    let free = c.free_ticket-ticket.ensures.free ∙ ap (free_from 0) c.deref.ensures.value in
+    let entries = c.in-Ok.ensures.items ∙ ap (λ (t : ℕ). insert live.tickets t (t, live.last)) free
+    ∙ insert-free live.last live.tickets (as_T (is_sorted nat_cmp live.tickets) c.self.invariant.are.rising) in
+    ap (λ (ts : List Ticket). ended c.free_ticket-ticket.result (record { last = live.last; tickets = ts })) entries
+    ∙ ap (λ (t : ℕ). ended t (begun live)) free ∙ ended-begun live c.self.invariant.are ∙ c.self.view_is

@@ -23,3 +23,15 @@ returns-clause-blocks c = λ closed open_block has last.
           has.place (omega (arith, length-block_body table_format open_block, long)) (c.in_ok-share.ensures ∙ last)
           ∙ sym (places-push 16 closed open_block);
     }
+
+pub returns-then-self-length-clause-too_long : goal.returns-then-self-length-clause-too_long
+returns-then-self-length-clause-too_long c = λ closed open_block has is.
+    let long = c.in_ok-length.ensures.length open_block has.written in
+    omega (
+      arith,
+      c.if-self-length.true,
+      has.place,
+      sum-push closed open_block,
+      length-block_body table_format open_block,
+      long,
+    )

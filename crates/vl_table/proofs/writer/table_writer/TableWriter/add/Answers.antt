@@ -1,5 +1,7 @@
 use Rattle.std.proofs.Common.{refl}
-use Rattle.std.proofs.lemmas.Result.{err_from_is_err_and}
+use Rattle.std.proofs.Common.{ap}
+use Rattle.std.specs.Prelude.{Err}
+use Rattle.vl_table.proofs.WriterResults.{add_too_long, never_unlawful}
 use Rattle.vl_table.proofs.writer.table_writer.TableWriter.add.Goals as goal
 
 pub returns-then-not-may_come-clause-refused : goal.returns-then-not-may_come-clause-refused
@@ -9,18 +11,24 @@ returns-then-not-may_come-clause-refused c = λ number es given is. (
 )
 
 pub returns-in_err-put-clause-refused : goal.returns-in_err-put-clause-refused
-returns-in_err-put-clause-refused c = λ number es given is.
-    let p = err_from_is_err_and c.from_residual.result c.from_residual.ensures.1 in (
-      λ same comes. let first = p.1 in let second = p.2 in cc,
-      λ no. absurd (no ((c.may_come.ensures.comes number es given is).0 c.if-not-may_come.false)),
-    )
+returns-in_err-put-clause-refused c = λ number es given is. (
+  λ same comes. never_unlawful c.in_err-put.field-0.0 c.from_residual.result c.from_residual.ensures.1 same,
+  λ no. absurd (no ((c.may_come.ensures.comes number es given is).0 c.if-not-may_come.false)),
+)
 
 pub returns-clause-added : goal.returns-clause-added
 returns-clause-added c = λ number es given is.
-    c.in_ok-put.ensures number es given is ((c.may_come.ensures.comes number es given is).0 c.if-not-may_come.false)
+    c.in_ok-put.ensures.put number es given is ((c.may_come.ensures.comes number es given is).0 c.if-not-may_come.false)
 
 pub returns-clause-refused : goal.returns-clause-refused
 returns-clause-refused c = λ number es given is. (
   λ same comes. cc,
   λ no. absurd (no ((c.may_come.ensures.comes number es given is).0 c.if-not-may_come.false)),
+)
+
+pub returns-in_err-put-clause-too_long : goal.returns-in_err-put-clause-too_long
+returns-in_err-put-clause-too_long c = λ number es given is too_long. (
+  (c.may_come.ensures.comes number es given is).0 c.if-not-may_come.false,
+  c.in_err-put.ensures.too_long number es given is
+      (ap Err (add_too_long c.in_err-put.field-0.0 c.from_residual.result c.from_residual.ensures.1 too_long)),
 )

@@ -1,16 +1,16 @@
 use Rattle.vl_model.specs.Formats.{table_format}
-use Rattle.std.proofs.Common.{◌≡◌, ◌∙◌, ◌++◌, [], ◌∷◌, sym, refl, subst, append-nil, List, ℕ}
-use Rattle.std.proofs.lemmas.Result.{on_ok_weaker}
+use Rattle.std.proofs.Common.{◌≡◌, ◌∙◌, ◌++◌, [], ◌∷◌, arith, sym, refl, subst, append-nil, List, ℕ}
 use Rattle.vl_frame.specs.Frame.{frame_bytes}
 use Rattle.vl_frame.specs.declared.kinds.FrameKind.TheVariants as kinds
+use Rattle.std.proofs.lemmas.Result.{on_ok_weaker}
 use Rattle.vl_table.specs.body.Blocks.{block_body}
 use Rattle.vl_table.specs.writer.Writing.{HasBlocks, HasRoom}
-use Rattle.vl_table.proofs.Written.{closes, stays_open}
+use Rattle.vl_table.proofs.Written.{closes, full_end, stays_open}
 use Rattle.vl_table.proofs.WriterResults.{on_ok_both}
 use Rattle.vl_table.proofs.writer.table_writer.TableWriter.make_room.Goals as goal
 
-pub returns-then-has_room : goal.returns-then-has_room
-returns-then-has_room c = λ number es given is.
+pub returns-then-has_room-clause-room : goal.returns-then-has_room-clause-room
+returns-then-has_room-clause-room c = λ number es given is.
     let w = c.args.self.now in (
       [],
       sym (append-nil c.args.out.now.items),
@@ -18,8 +18,8 @@ returns-then-has_room c = λ number es given is.
           (stays_open w number es given c.args.entry.now is (sym (c.has_room.ensures is.closed is.open_block is.has) ∙ c.if-has_room.true)),
     )
 
-pub returns : goal.returns
-returns c = λ number es given is.
+pub returns-clause-room : goal.returns-clause-room
+returns-clause-room c = λ number es given is.
     let w = c.args.self.now in
     let frame = frame_bytes w.blocks.number w.blocks.place kinds.Block (block_body table_format is.open_block) in
     on_ok_weaker c.close.result
@@ -31,3 +31,10 @@ returns c = λ number es given is.
     ))
     (on_ok_both c.close.result _ _ (c.close.ensures.blocks is.closed is.open_block is.has (is.sums.last ∙ sym is.last))
     (c.close.ensures.written is.closed is.open_block is.has))
+
+pub returns-clause-too_long : goal.returns-clause-too_long
+returns-clause-too_long c = λ number es given is too_long.
+    let long = c.close.ensures.too_long is.closed is.open_block is.has too_long in
+    let end = full_end c.args.self.now number es given c.args.entry.now is
+    (sym (c.has_room.ensures is.closed is.open_block is.has) ∙ c.if-has_room.false) in
+    omega (arith, long, end)
