@@ -13,7 +13,6 @@ mod Lookups
 mod MeetSteps
 mod OpenSteps
 mod OpeningSteps
-mod OrderSteps
 mod PartFaults
 mod Parts
 mod PointLaws

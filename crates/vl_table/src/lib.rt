@@ -20,7 +20,6 @@ mod fault;
 mod laws;
 mod open;
 mod open_block;
-mod order;
 mod part;
 mod read;
 mod slot;
@@ -40,6 +39,5 @@ pub use laws::{
     a_worked_table, bodies_are_read_in_one_way, tables_are_read_in_one_way,
     tables_have_their_length, true_tables_are_read, true_tables_have_no_bad_block,
 };
-pub use order::first_out_of_order;
 pub use table::Table;
 pub use writer::{AddFail, TableWriter, Tail, WriteFail, tables_have_room};
