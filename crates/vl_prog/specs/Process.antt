@@ -109,4 +109,4 @@ pub record ServedOver {S K D R W : Type 0} (s : source.Ghosts S) (k : sink.Ghost
   pub does : DoesAsAsked s k g faults words (handed source sink made) (handed source' sink' left) status
   pub cause : HasItsCause s k g faults writes words (handed source sink made) (handed source' sink' left) status
   -- A store may be opened there again, where one might before.
-  pub again : (start : State) (input : List ℕ) → StartsIn g made start → s.left source ≡ Some input → StaysOpenable g made left
+  pub again : (start : State) → StartsIn g made start → StaysOpenable g made left

@@ -17,9 +17,10 @@ ghost use Rattle.vl_script_model.specs.Start.{StartsIn, StaysOpenable};
 ghost use Rattle.vl_script_model.specs.Steps.{IsRefusedRun};
 ghost use Rattle.vl_script_model.specs.declared.ending.Ending.{Ending as HowEnded};
 ghost use Rattle.vl_script_model.specs.declared.fails.Refusal.{Refusal};
-ghost use Rattle.vl_script_model.specs.Trial.{begun};
+ghost use Rattle.vl_script_model.specs.Trial.{TriesInTime, begun};
 ghost use Rattle.vl_script_model.specs.Trying.{trial_of};
 ghost use Rattle.vl_mem.specs.declared.outcome.Outcome.{Outcome};
+ghost use Rattle.vl_replay.specs.AsCalled.{RunsFromOpening, files_by, shares_by};
 ghost use Rattle.vl_replay.specs.Benchmark.{StatusOfBench, summary_of};
 ghost use Rattle.vl_prog.specs.Counting.{StatusOfIds};
 ghost use Rattle.vl_prog.specs.Driving.{StatusOfDrive};
@@ -74,6 +75,11 @@ pub fn run<T: Shops, R: Threads + Wait + Sync, S: Source, K: Sink, D: Disk>(
     ensures tries { (stop : ℕ) (outcome : Outcome) (input : List ℕ) → AskFor (map string_bytes words.now) (Command.Trial stop outcome)
         → S.left source.old ≡ Some input
         → StatusOfTrial (trial_of stop input outcome) (K.held sink.old) (K.held sink.new) (S.left source.new) result.status }
+
+    // Each answer of a trial is put before the next line is read.
+    ensures tries_in_time { (stop : ℕ) (outcome : Outcome) (input : List ℕ) → AskFor (map string_bytes words.now) (Command.Trial stop outcome)
+        → S.left source.old ≡ Some input
+        → TriesInTime (trial_of stop input outcome) (K.held sink.old) (K.held sink.new) (S.asked source.new) }
 
     // Where they ask for a benchmark, the summary of the answers to its lines is printed. Source and disk are left untouched.
     ensures benches { (seed count : ℕ) → AskFor (map string_bytes words.now) (Command.Bench seed count)
@@ -143,13 +149,20 @@ pub fn run<T: Shops, R: Threads + Wait + Sync, S: Source, K: Sink, D: Disk>(
     ensures no_stream_fault { result.status < 6
         → (S.faults source.new ≡ S.faults source.old) × (K.faults sink.new ≡ K.faults sink.old) }
 
+    // In a replay, whatever the disk is and holds, each line was answered what the engine's call gave. The run ended as the last call
+    // says: by damage with that damage's line and status 4, and by a fault with that of a fault and status 3; or no store was opened,
+    // and it says why.
+    ensures called { AskFor (map string_bytes words.now) Command.Replay → (ending : HowEnded) × (result.status ≡ status_of ending)
+        × RunsFromOpening D.Watched (files_by D.Held.bytes D.Held.size D.Held.named)
+        (shares_by D.Held.is_clone D.Held.is_infallible) D.Reader.Reader D.Writer.Writer K.Sink disk (S.left source.old)
+        sink.old sink.new ending }
+
     // There are no other statuses.
     ensures status { (ending : HowEnded) × (result.status ≡ status_of ending) }
 
-    // Over a source that tells, and a disk on which a run may begin and a store be opened: however the run ends, and whatever
-    // failed, one may be opened there again.
-    ensures again { (s : State) (input : List ℕ) → StartsIn D.Watched disk s → S.left source.old ≡ Some input
-        → StaysOpenable D.Watched disk result.disk }
+    // Over a disk on which a run may begin and a store be opened: however the run ends, and whatever failed, one may be opened there
+    // again.
+    ensures again { (s : State) → StartsIn D.Watched disk s → StaysOpenable D.Watched disk result.disk }
 
     // In a replay the status tells of the input over every disk, also where nothing is known of what it holds: after 0 every
     // line was of the language and was answered, and after 1 just those before the bad one.

@@ -212,6 +212,7 @@ out_of_memory old new (Err (halts.Disk name)) whole read cause =
     let after = never_fails new in
     absurd (omega (arith, rose, before, after))
 out_of_memory old new (Err (halts.Read name)) whole read cause = absurd (none_failed (read tt))
+out_of_memory old new (Err (halts.Halted name)) whole read cause = absurd (none_failed (read tt))
 out_of_memory old new (Err (halts.Damaged name place)) whole read cause = absurd (whole tt)
 
 -- ---- a halt that is handed on

@@ -240,6 +240,7 @@ module _ {D H R W : Type 0} (g : Ghosts D) (watched : IsWatched g) (writers : Wr
         → Merged g writers bytes old new after is_open last s j (Err halt)
     halted halts.NoMemory round = over (Err halts.NoMemory) (Err halts.NoMemory) round (λ fine by. by) (λ by. absurd by) tt
     halted (halts.Read name) round = over (Err (halts.Read name)) (Err (halts.Read name)) round (λ fine by. by) (λ by. absurd by) tt
+    halted (halts.Halted name) round = absurd round.ends
     halted (halts.Damaged name place) round = absurd round.ends
     halted (halts.Disk name) round =
         let (none, missing, fits, is) = round.ends in

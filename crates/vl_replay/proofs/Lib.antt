@@ -1,3 +1,4 @@
+pub mod AsCalled
 pub mod Benchmarks
 pub mod CarryingDisk
 pub mod CarryingDraws

@@ -3,3 +3,4 @@ pub mod OpenedRuns
 pub mod ReaderFaults
 pub mod ReadingOn
 pub mod Refusals
+pub mod StaysOpen

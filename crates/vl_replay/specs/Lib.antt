@@ -1,3 +1,4 @@
+pub mod AsCalled
 pub mod Benchmark
 pub mod Handed
 pub mod Opened

@@ -49,7 +49,7 @@ abbrev pub round_by : StepFail → Result Round Halt
 round_by (fails.Exhausted counter) = Ok (rounds.Exhausted counter)
 round_by fails.NoMemory = Err halts.NoMemory
 round_by (fails.Disk name) = Err (halts.Disk name)
-round_by (fails.Halted name) = Err (halts.Read name)
+round_by (fails.Halted name) = Err (halts.Halted name)
 
 -- ---- its files
 
@@ -119,6 +119,7 @@ EndsRound writers bytes before after reader s j count (Err (halts.Disk file)) =
     (count ≡ 0) × (length before.made.items < length (outputs j)) × (s.store.layout.next_table ≤ max_file_number)
     × (file ≡ Table s.store.layout.next_table)
 EndsRound writers bytes before after reader s j count (Err (halts.Read file)) = Unit {0}
+EndsRound writers bytes before after reader s j count (Err (halts.Halted file)) = ⊥
 EndsRound writers bytes before after reader s j count (Err (halts.Damaged file place)) = ⊥
 
 -- A round of a merge that was under way in this state.

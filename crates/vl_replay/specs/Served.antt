@@ -1,5 +1,5 @@
 -- What the loop sees of a replayer: for which state it stands, its disk, and whether it takes lines.
-use Rattle.std.specs.Prelude.{◌≡◌, ℕ, List, Option, None}
+use Rattle.std.specs.Prelude.{◌≡◌, ℕ, List, Option, None, Some}
 use Rattle.vl_disk.specs.declared.watched.Watched.{Ghosts}
 use Rattle.vl_disk.specs.declared.writer.Writer.{Ghosts as Writers}
 use Rattle.vl_engine_laws.specs.Lent.{Opens}
@@ -8,7 +8,11 @@ use Rattle.vl_engine_model.specs.Store.Things as things
 use Rattle.vl_version.specs.declared.base.Base.{Base}
 use Rattle.vl_replay_laws.specs.Passing.{PassesIn}
 use Rattle.vl_replay_laws.specs.Replaying.{MergesIn, StandsIn}
+use Rattle.vl_recover.specs.crash.Starts.{MayOpen}
+use Rattle.vl_script_model.specs.Durable.{HoldsState, Tells}
 use Rattle.vl_script_model.specs.Sequential.{State}
+use Rattle.vl_script_model.specs.Stored.{IsStored}
+use Rattle.vl_script_model.specs.declared.ending.Ending.{Ending}
 use Rattle.vl_replay.specs.declared.replayer.Replayer.{Replayer}
 use Rattle.vl_replay.specs.declared.replayer.Served.{Served}
 use Rattle.vl_replay_laws.specs.declared.passing.Passing.{Passing}
@@ -74,3 +78,8 @@ StandsFor g writers bytes replayer s = StandsWith g writers bytes replayer.serve
 abbrev pub TakesLines : {D Held Reader Writer : Type 0} {watched : _} {held : _} {cloned : _} {read : _} {write : _}
     → Replayer D Held Reader Writer watched held cloned read write → Type 0
 TakesLines replayer = replayer.halted ≡ None
+
+-- Where a run goes on, its disk holds a state for which its replayer stands; and where it ended, a store may be opened on it again.
+abbrev pub StaysOpen : {D : Type 0} → Ghosts D → (stands : State → Type 0) → D → Option Ending → Type 0
+StaysOpen g stands disk None = (t : State) × stands t × HoldsState g IsStored t disk
+StaysOpen g stands disk (Some ending) = Tells g disk MayOpen

@@ -1,9 +1,11 @@
 //! One line of a script: carried out, and answered.
-ghost use Rattle.std.specs.Prelude.{◌≡◌, ◌≢◌, None, Some, IfOk, OnOk};
+ghost use Rattle.std.specs.Prelude.{◌≡◌, ◌≢◌, None, Some, IfErr, IfOk, OnOk};
 ghost use Rattle.std.specs.Option.{option_map};
 ghost use Rattle.vl_disk.specs.Faults.{Rose, HasCause};
 ghost use Rattle.vl_script_model.specs.Sequential.{State};
-ghost use Rattle.vl_replay.specs.Served.{StandsFor, TakesLines, disk_of};
+ghost use Rattle.vl_replay.specs.AsCalled.{AnswersAsCalled};
+ghost use Rattle.vl_script_model.specs.Called.{AnswersAsLine, EndsText, HaltsAsLine, IsApart};
+ghost use Rattle.vl_replay.specs.Served.{StandsFor, StaysOpen, TakesLines, disk_of};
 ghost use Rattle.vl_script_model.specs.Exchanges.{exchange_at, state_behind};
 ghost use Rattle.vl_script_model.specs.Endings.{TheDisk, TheSink, TheSource, CountsFaultsOf, CutsAnswer, EndsAs, culprit_of, line_number};
 ghost use Rattle.vl_script_model.specs.Runs.{Script};
@@ -49,6 +51,12 @@ fn execute_line<D: Disk>(
     ensures met { HaltsByRead result → IsLine text.now }
     ensures reads { IfOk result (λ out. ReadsText text.now (option_map (λ text. text.items) out)) }
     ensures goes_on { OnOk result (TakesLines replayer.new) }
+    // Whatever the disk holds, it is answered, or halted, as its line is.
+    ensures as_called { IfOk result (λ out. AnswersAsLine
+        (AnswersAsCalled D.Watched D.Held.bytes (λ r. D.Reader.faults r) D.Writer.Writer replayer.old replayer.new) text.now
+        (option_map (λ text. text.items) out)) }
+    ensures halted { IfErr result (HaltsAsLine
+        (AnswersAsCalled D.Watched D.Held.bytes (λ r. D.Reader.faults r) D.Writer.Writer replayer.old replayer.new) text.now) }
 {
     let Some(line) = parse_line(alloc, text)? else {
         return Ok(None);
@@ -69,6 +77,7 @@ pub fn end_at_bad_line<K: Sink>(alloc: Global, answered: u64, sink: &mut K) -> E
     ensures not_the_words { result ≢ Ending.BadWords }
     ensures readable { result ≢ Ending.ReaderFault }
     ensures whole { CutsAnswer result → ⊥ }
+    ensures apart { IsApart result }
     ensures reads { EndsBadly (Unit {0}) ⊥ answered result (K.held sink.old) (K.held sink.new) }
 {
     let mut line = Vec::new(alloc);
@@ -107,9 +116,15 @@ pub fn answer<K: Sink, D: Disk>(
         → ReaderFailed (beside D.Reader.faults D.Writer.faults) }
     ensures stands { (s : State) → StandsFor D.Watched D.Writer.Writer D.Held.bytes replayer.old s → result ≡ None
         → (t : State) × StandsFor D.Watched D.Writer.Writer D.Held.bytes replayer.new t }
+    ensures again { (s : State) → StandsFor D.Watched D.Writer.Writer D.Held.bytes replayer.old s
+        → HoldsState D.Watched IsStored s (disk_of replayer.old)
+        → StaysOpen D.Watched (StandsFor D.Watched D.Writer.Writer D.Held.bytes replayer.new) (disk_of replayer.new) result }
     ensures reads { AnswersText text.now answered result (K.held sink.old) (K.held sink.new) }
     ensures as_meant { EndsAs on_fault result }
     ensures goes_on { result ≡ None → TakesLines replayer.new }
+    // Whatever the disk holds, what is put, and how the run ends there, follows from what the line was answered.
+    ensures as_called { EndsText K.Sink on_fault
+        (AnswersAsCalled D.Watched D.Held.bytes (λ r. D.Reader.faults r) D.Writer.Writer replayer.old replayer.new) text.now sink.old sink.new result }
 {
     match execute_line(alloc, replayer, text) {
         Ok(Some(answer)) => match sink.put(&answer) {
@@ -120,6 +135,7 @@ pub fn answer<K: Sink, D: Disk>(
         Err(Halt::NoMemory) => Some(finish(sink, NO_MEMORY, Ending::NoMemory)),
         Err(Halt::Damaged { name, place }) => Some(end_at_damage(alloc, sink, name, place)),
         Err(Halt::Read { .. }) => Some(finish(sink, DISK_FAULT, Ending::ReaderFault)),
+        Err(Halt::Halted { .. }) => Some(finish(sink, DISK_FAULT, Ending::ReaderFault)),
         Err(Halt::Disk { .. }) => Some(end_at_fault(sink, on_fault)),
     }
 }

@@ -1,17 +1,20 @@
 //! Whole runs of a script.
-ghost use Rattle.std.specs.Prelude.{◌≡◌, ◌≢◌, ◌⊎◌, ◌+◌, ◌<◌, ℕ, List, Some, None, length};
+ghost use Rattle.std.specs.Prelude.{◌≡◌, ◌≢◌, ◌⊎◌, ◌+◌, ◌<◌, ℕ, List, Option, Some, None, length};
 ghost use Rattle.vl_disk.specs.Crash.{Image};
 ghost use Rattle.vl_disk.specs.DiskState.{DiskState};
 ghost use Rattle.vl_disk.specs.Started.{IsRead};
+ghost use Rattle.vl_recover.specs.crash.Starts.{MayOpen};
 ghost use Rattle.vl_script_model.specs.Sequential.{State};
-ghost use Rattle.vl_replay.specs.Served.{StandsFor, TakesLines, disk_of};
+ghost use Rattle.vl_replay.specs.AsCalled.{AnswersAsCalled, RunsFromOpening, files_by, shares_by};
+ghost use Rattle.vl_replay.specs.Served.{StandsFor, StaysOpen, TakesLines, disk_of};
+ghost use Rattle.vl_script_model.specs.Called.{CallsOn, EndsText, HasCalled, RunsAsCalled};
 ghost use Rattle.vl_script_model.specs.Exchanges.{exchange_at, state_behind};
 ghost use Rattle.vl_script_model.specs.Endings.{TheDisk, TheSink, TheSource, CountsFaultsOf, EndsAs, culprit_of, line_number};
 ghost use Rattle.std.specs.Option.{option_map};
 ghost use Rattle.vl_disk.specs.Faults.{Rose};
 ghost use Rattle.vl_script_model.specs.Runs.{Script, script_of, outside, EndsRun};
 ghost use Rattle.vl_script_model.specs.Failing.{ReaderFailed, beside};
-ghost use Rattle.vl_script_model.specs.Durable.{HoldsState, DiskEndsFrom};
+ghost use Rattle.vl_script_model.specs.Durable.{HoldsState, DiskEndsFrom, Tells};
 ghost use Rattle.vl_script_model.specs.Stored.{IsStopped, IsStored};
 ghost use Rattle.vl_engine_laws.specs.Shown.{Shown};
 ghost use Rattle.vl_script_model.specs.Start.{AnswersInput, EndsAtTables, StartsIn, StaysOpenable};
@@ -67,9 +70,19 @@ impl<D: Disk> Progress<D> {
             → result ≡ Some Ending.ReaderFault → ReaderFailed (beside D.Reader.faults D.Writer.faults) }
         ensures stands { (s : State) → StandsFor D.Watched D.Writer.Writer D.Held.bytes self.old.replayer s → result ≡ None
             → (t : State) × StandsFor D.Watched D.Writer.Writer D.Held.bytes self.new.replayer t }
+        // However the run goes on, the disk holds such a state; and however it ends, a store may be opened there again.
+        ensures again { (s : State) → StandsFor D.Watched D.Writer.Writer D.Held.bytes self.old.replayer s
+            → HoldsState D.Watched IsStored s (disk_of self.old.replayer)
+            → StaysOpen D.Watched (StandsFor D.Watched D.Writer.Writer D.Held.bytes self.new.replayer) (disk_of self.new.replayer) result }
         ensures reads { (input : List ℕ) (begin : Streams)
             → HasRead input begin (streams S.Source K.Sink source.old sink.old) self.old.buffer self.old.answered
             → ReadsOn input begin (streams S.Source K.Sink source.new sink.new) self.new.buffer self.new.answered result }
+        // Whatever the disk holds, each line was answered what the engine's call gave, and so is this one; or it ended the run.
+        ensures called { (first : _) (left : Option (List ℕ)) (begin : K)
+            → HasCalled (AnswersAsCalled D.Watched D.Held.bytes (λ r. D.Reader.faults r) D.Writer.Writer) K.Sink first self.old.replayer
+            left (S.left source.old) self.old.buffer begin sink.old
+            → CallsOn (AnswersAsCalled D.Watched D.Held.bytes (λ r. D.Reader.faults r) D.Writer.Writer) K.Sink self.old.on_fault first
+            self.new.replayer left (S.left source.new) self.new.buffer begin sink.new result }
         ensures as_meant { EndsAs self.old.on_fault result }
         ensures same_mode { self.new.on_fault ≡ self.old.on_fault }
         ensures goes_on { result ≡ None → TakesLines self.new.replayer }
@@ -110,7 +123,13 @@ impl<D: Disk> Progress<D> {
             → result ≡ Some Ending.ReaderFault → ReaderFailed (beside D.Reader.faults D.Writer.faults) }
         ensures stands { (s : State) → StandsFor D.Watched D.Writer.Writer D.Held.bytes self.old.replayer s → result ≡ None
             → (t : State) × StandsFor D.Watched D.Writer.Writer D.Held.bytes self.new.replayer t }
+        ensures again { (s : State) → StandsFor D.Watched D.Writer.Writer D.Held.bytes self.old.replayer s
+            → HoldsState D.Watched IsStored s (disk_of self.old.replayer)
+            → StaysOpen D.Watched (StandsFor D.Watched D.Writer.Writer D.Held.bytes self.new.replayer) (disk_of self.new.replayer) result }
         ensures reads { AnswersText self.old.line.items self.old.answered result (K.held sink.old) (K.held sink.new) }
+        ensures called { EndsText K.Sink self.old.on_fault
+            (AnswersAsCalled D.Watched D.Held.bytes (λ r. D.Reader.faults r) D.Writer.Writer self.old.replayer self.new.replayer)
+            self.old.line.items sink.old sink.new result }
         ensures as_meant { EndsAs self.old.on_fault result }
         ensures same_mode { self.new.on_fault ≡ self.old.on_fault }
         ensures goes_on { result ≡ None → TakesLines self.new.replayer }
@@ -161,10 +180,14 @@ pub fn replay<S: Source, K: Sink, D: Disk>(
         → EndsWithoutOpening D.Watched K.Sink disk result.disk sink.old sink.new refusal result.ending
         × (source.new ≡ source.old) }
 
-    // Over a source that tells, and a disk on which a store may be opened: however the run ends, and whatever failed, one may
-    // be opened there again.
-    ensures again { (s : State) (input : List ℕ) → StartsIn D.Watched disk s → S.left source.old ≡ Some input
-        → StaysOpenable D.Watched disk result.disk }
+    // Whatever the disk is and holds, each line was answered what the engine's call gave. The run ended as the last call says: by
+    // damage with that damage's line, and by a fault with that of a fault; or no store was opened, and it says why.
+    ensures called { RunsFromOpening D.Watched (files_by D.Held.bytes D.Held.size D.Held.named)
+        (shares_by D.Held.is_clone D.Held.is_infallible) D.Reader.Reader D.Writer.Writer K.Sink disk (S.left source.old)
+        sink.old sink.new result.ending }
+
+    // Over a disk on which a store may be opened: however the run ends, and whatever failed, one may be opened there again.
+    ensures again { (s : State) → StartsIn D.Watched disk s → StaysOpenable D.Watched disk result.disk }
 
     // Whatever the disk is and holds, the run tells so much of its input.
     ensures input { (input : List ℕ) → S.left source.old ≡ Some input
@@ -204,6 +227,11 @@ pub(crate) fn answer_lines<S: Source, K: Sink, D: Disk>(
     ensures input { (input : List ℕ) → S.left source.old ≡ Some input
         → ReadsInput input (streams S.Source K.Sink source.old sink.old) (streams S.Source K.Sink source.new sink.new)
         result.ending }
+    ensures again { (s : State) → StandsFor D.Watched D.Writer.Writer D.Held.bytes replayer s
+        → HoldsState D.Watched IsStored s (disk_of replayer) → Tells D.Watched result.disk MayOpen }
+    // Whatever the disk holds, each line was answered what the engine's call gave, and the run ended there.
+    ensures called { RunsAsCalled (AnswersAsCalled D.Watched D.Held.bytes (λ r. D.Reader.faults r) D.Writer.Writer) K.Sink on_fault
+        replayer (S.left source.old) sink.old sink.new result.ending }
     ensures as_meant { EndsAs on_fault (Some result.ending) }
     ensures still_told { (left : List ℕ) → S.left source.old ≡ Some left → (rest : List ℕ) × (S.left source.new ≡ Some rest) }
 {

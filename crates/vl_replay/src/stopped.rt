@@ -10,7 +10,8 @@ ghost use Rattle.vl_script_model.specs.Endings.{TheSink, TheSource, CountsFaults
 ghost use Rattle.vl_engine.specs.Opening.{IsFault};
 ghost use Rattle.vl_script_model.specs.Reopens.{Reopens};
 ghost use Rattle.vl_replay.specs.Served.{StandsFor, TakesLines, disk_of};
-ghost use Rattle.vl_script_model.specs.Trial.{EndsTrial};
+ghost use Rattle.vl_mem.specs.declared.outcome.Outcome.{Outcome as Outcomes};
+ghost use Rattle.vl_script_model.specs.Trial.{EndsTrial, PutsInTime, TriesInTime};
 ghost use Rattle.vl_script_model.specs.Trying.{ComesTo, IsOnTrial, PassesAndReopens, ReopensAs, StopsOpening, all_told, trial_of};
 
 use crate::contents::store_text;
@@ -40,6 +41,9 @@ pub fn trial<S: Source, K: Sink>(
     // So it is of what is printed, to the byte. No stop is reported as a fault of the disk.
     ensures ends { (input : List ℕ) → S.left source.old ≡ Some input
         → EndsTrial (trial_of stop input outcome) (K.held sink.old) (K.held sink.new) (S.left source.new) result }
+    // Each answer is put before the next line is read.
+    ensures in_time { (input : List ℕ) → S.left source.old ≡ Some input
+        → TriesInTime (trial_of stop input outcome) (K.held sink.old) (K.held sink.new) (S.asked source.new) }
     ensures no_disk_fault { status_of result ≢ 3 }
     ensures not_the_words { result ≢ Ending.BadWords }
     ensures source_faults { CountsFaultsOf TheSource (Some result) (S.faults source.old) (S.faults source.new) }
@@ -76,6 +80,8 @@ fn run_to_stop<S: Source, K: Sink>(
 ) -> Ended<StoppingDisk>
     ensures comes { (input : List ℕ) → S.left source.old ≡ Some input
         → ComesTo (trial_of stop input) (K.held sink.old) (K.held sink.new) (S.left source.new) result.disk result.ending }
+    ensures in_time { (input : List ℕ) (outcome : Outcomes) → S.left source.old ≡ Some input
+        → PutsInTime (trial_of stop input outcome) (K.held sink.old) (K.held sink.new) (S.asked source.new) }
     ensures no_disk_fault { result.ending ≢ Ending.DiskFault }
     ensures no_read_fault { result.ending ≢ Ending.ReaderFault }
     ensures not_the_words { result.ending ≢ Ending.BadWords }

@@ -3,13 +3,15 @@ ghost use Rattle.std.specs.Prelude.{◌≡◌, ◌<◌, ◌+◌, ◌^◌, ℕ, N
 ghost use Rattle.vl_compact.specs.Progress.{IsNew};
 ghost use Rattle.vl_disk.specs.Faults.{HasCause};
 ghost use Rattle.vl_steps.specs.Drawing.{drawn_core};
-ghost use Rattle.vl_steps.specs.Merging.{IsJustOpen};
+ghost use Rattle.vl_steps.specs.Merging.{FitsReaders, IsJustOpen};
+ghost use Rattle.vl_version.specs.Bases.{Fits};
 ghost use Rattle.vl_space.specs.Removing.{Removes};
 ghost use Rattle.vl_engine.specs.UnderWay.{IsUnderWay as MayGiveUp};
 ghost use Rattle.vl_engine_model.specs.declared.job.Job as laid;
 ghost use Rattle.vl_replay_laws.specs.Drawn.{IsPlanned, Merged, drawn_all};
 ghost use Rattle.vl_script_model.specs.Failing.{ReaderFailed, beside};
 ghost use Rattle.vl_script_model.specs.Halts.{HaltsByDisk, HaltsByReader};
+ghost use Rattle.vl_replay.specs.AsCalled.{HaltsMerging};
 ghost use Rattle.vl_replay.specs.Handed.{MayHandIn};
 ghost use Rattle.vl_replay.specs.Rounds.{HasLent, IsUnderWay, RoundLeaves, Rounds, StillLent, halt_by, round_by};
 ghost use Rattle.vl_script_model.specs.Sequential.{State};
@@ -60,6 +62,9 @@ pub fn make_tables<D: Disk>(
     ensures fault { engine.old.core.front.halted ≡ None
         → HaltsByReader result → ReaderFailed (beside D.Reader.faults D.Writer.faults) }
 
+    // Whatever the disk holds, damage is that of a block which reading for the merge met, and a fault beside the disk is counted.
+    ensures as_called { HaltsMerging D.Held.bytes (λ r. D.Reader.faults r) D.Writer.Writer (FitsReaders D.Held.bytes job.old) job.old result }
+
     // What is kept of statistics and of passes stays.
     ensures collecting { engine.new.collecting ≡ engine.old.collecting }
     ensures logs { engine.new.core.version.behind.logs ≡ engine.old.core.version.behind.logs }
@@ -100,6 +105,12 @@ fn make_table<D: Disk>(
     ensures cause { HasCause (D.faults engine.old.disk) (D.faults engine.new.disk) (HaltsByDisk result) }
     ensures fault { engine.old.core.front.halted ≡ None
         → HaltsByReader result → ReaderFailed (beside D.Reader.faults D.Writer.faults) }
+    // Whatever the disk holds, damage is that of a block which reading for the merge met. What is merged stays the same.
+    ensures as_called { HaltsMerging D.Held.bytes (λ r. D.Reader.faults r) D.Writer.Writer
+        (Fits D.Held.bytes job.old.base.version reader.old.looks) job.old result }
+    ensures base { job.new.base ≡ job.old.base }
+    ensures inputs { job.new.inputs ≡ job.old.inputs }
+    ensures fits { Fits D.Held.bytes job.old.base.version reader.old.looks → Fits D.Held.bytes job.old.base.version reader.new.looks }
     ensures lent { HasLent D.Watched D.Writer.Writer engine.old.disk engine.old.merging job.old
         → StillLent (HasLent D.Watched D.Writer.Writer engine.new.disk engine.new.merging job.new) (job.new.ended ≡ true) result }
     ensures under_way { HasLent D.Watched D.Writer.Writer engine.old.disk engine.old.merging job.old
@@ -144,7 +155,6 @@ fn refused(fail: StepFail) -> Result<Round, Halt>
         StepFail::Exhausted(counter) => Ok(Round::Exhausted(counter)),
         StepFail::NoMemory => Err(Halt::NoMemory),
         StepFail::Disk { name } => Err(Halt::Disk { name }),
-        // An engine that is halted already: a replayer stops at the first fault, and comes never here.
-        StepFail::Halted { name } => Err(Halt::Read { name }),
+        StepFail::Halted { name } => Err(Halt::Halted { name }),
     }
 }

@@ -108,6 +108,8 @@ EndsMerging writers bytes job s j count (Err (halts.Disk file)) =
     (count < length (outputs j)) × (s.store.layout.next_table + count ≤ max_file_number)
     × (file ≡ Table (s.store.layout.next_table + count))
 EndsMerging writers bytes job s j count (Err (halts.Read file)) = Unit {0}
+-- the engine wasn't halted
+EndsMerging writers bytes job s j count (Err (halts.Halted file)) = ⊥
 -- nothing that it reads is damaged
 EndsMerging writers bytes job s j count (Err (halts.Damaged file place)) = ⊥
 

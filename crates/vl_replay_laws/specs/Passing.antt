@@ -106,7 +106,7 @@ halt_at (faults.Damaged name place) = halts.Damaged name place
 -- An engine is halted only behind a fault, at which its replayer halts too.
 abbrev pub move_answer : Result ℕ MoveFail → Result Answer Halt
 move_answer (Ok count) = Ok (answers.Moved count)
-move_answer (Err (unmoved.Halted name)) = Err (halts.Read name)
+move_answer (Err (unmoved.Halted name)) = Err (halts.Halted name)
 move_answer (Err (unmoved.Exhausted batch counter)) = Ok (answers.Exhausted counter)
 move_answer (Err (unmoved.Full batch length frame)) = Ok answers.Full
 move_answer (Err (unmoved.NoMemory batch)) = Err halts.NoMemory

@@ -178,7 +178,7 @@ step_answer (Ok None) = Ok answers.Idle
 step_answer (Err (undone.Exhausted counter)) = Ok (answers.Exhausted counter)
 step_answer (Err undone.NoMemory) = Err halts.NoMemory
 step_answer (Err (undone.Disk name)) = Err (halts.Disk name)
-step_answer (Err (undone.Halted name)) = Err (halts.Read name)
+step_answer (Err (undone.Halted name)) = Err (halts.Halted name)
 
 -- ---- what a change of how many versions are kept is told
 
@@ -187,11 +187,11 @@ keep_answer (Ok done) = Ok answers.Done
 keep_answer (Err unkept.InvalidRequest) = Ok answers.Invalid
 keep_answer (Err unkept.NoMemory) = Err halts.NoMemory
 keep_answer (Err (unkept.Disk name)) = Err (halts.Disk name)
-keep_answer (Err (unkept.Halted name)) = Err (halts.Read name)
+keep_answer (Err (unkept.Halted name)) = Err (halts.Halted name)
 
 -- ---- what a sweep is told
 
 abbrev pub sweep_answer : Result ℕ SweepFail → Result Answer Halt
 sweep_answer (Ok count) = Ok (answers.Removed count)
 sweep_answer (Err (unswept.Disk name)) = Err (halts.Disk name)
-sweep_answer (Err (unswept.Halted name)) = Err (halts.Read name)
+sweep_answer (Err (unswept.Halted name)) = Err (halts.Halted name)

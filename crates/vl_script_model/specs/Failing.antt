@@ -1,5 +1,5 @@
 -- At which lines a read may fail, and at which files the disk may fail a line.
-use Rattle.std.specs.Prelude.{◌≡◌, ◌⊎◌, ◌≤◌, ◌<◌, ℕ, List, true, Option, None, Some}
+use Rattle.std.specs.Prelude.{◌≡◌, ◌⊎◌, ◌≤◌, ◌<◌, ℕ, List, length, true, Option, None, Some}
 use Rattle.vl_disk.specs.declared.name.Name.{Name}
 use Rattle.vl_disk.specs.declared.name.Name.TheVariants.{Log, Manifest, Table}
 use Rattle.vl_engine_laws.specs.Represents.{file_of}
@@ -8,12 +8,15 @@ use Rattle.vl_engine_model.specs.Sources.{numbers_of}
 use Rattle.vl_engine_model.specs.Relocation.{Candidate, Pass}
 use Rattle.vl_engine_model.specs.Rulings.Sweep.{swept}
 use Rattle.vl_engine_model.specs.Stock.{is_in}
-use Rattle.vl_engine_model.specs.Store.Things.{AJob, APass, Thing, thing_of}
+use Rattle.vl_engine_model.specs.Store.Commits.{Changes}
+use Rattle.vl_engine_model.specs.Store.Things.{AJob, APass, ATransaction, AView, Thing, thing_of}
 use Rattle.vl_engine_model.specs.declared.job.Job.{Job}
+use Rattle.vl_model.specs.Keys.{is_key_length}
+use Rattle.vl_model.specs.Limits.{max_key_bytes}
 use Rattle.vl_model.specs.Numbers.{has}
 use Rattle.vl_script.specs.declared.line.Line.{Line}
 use Rattle.vl_script.specs.declared.line.Line.TheVariants as lines
-use Rattle.vl_script_model.specs.Exchanges.{Exchange}
+use Rattle.vl_script_model.specs.Exchanges.{Exchange, ReadsAt, ScansAt}
 use Rattle.vl_script_model.specs.Readers.{IsWithoutTables}
 use Rattle.vl_script_model.specs.Sequential.{State, state_after}
 
@@ -29,14 +32,31 @@ SeeksRecords thing = (pass : Pass) × (thing ≡ Some (APass pass None))
 abbrev pub MovesRecords : Option Thing → Type 0
 MovesRecords thing = (pass : Pass) × (batch : List Candidate) × (thing ≡ Some (APass pass (Some batch)))
 
+-- The key is within the limits, and this reads it from the history: a view, or a transaction that hasn't written it.
+abbrev pub AsksForKey : Option Thing → List ℕ → Type 0
+AsksForKey thing key = (is_key_length (length key) ≡ true) × ((number : ℕ) × ReadsAt thing key number)
+
+-- this reads from the history, up to a number from this one on
+abbrev pub ReadsUpTo : Option Thing → ℕ → Type 0
+ReadsUpTo None at = ⊥
+ReadsUpTo (Some (AJob job made)) at = ⊥
+ReadsUpTo (Some (APass pass batch)) at = ⊥
+ReadsUpTo (Some (AView v b)) at = at ≤ v.number
+ReadsUpTo (Some (ATransaction t b)) at = at ≤ t.number
+
+-- both bounds are within the limits, and this scans
+abbrev pub AsksForRows : Option Thing → (low high : List ℕ) → Type 0
+AsksForRows thing low high = (length low ≤ max_key_bytes) × (length high ≤ max_key_bytes)
+    × ((own : Changes) × (number : ℕ) × ScansAt thing own number)
+
 -- The line reads, of a state that has a table; or it goes on with a pass, in the pass's log and the tables that there are. Only such
 -- a line asks the reader for bytes, or writes beside the disk.
 abbrev pub ReadsTables : Line → State → Type 0
 ReadsTables (lines.Begin name) s = ⊥
 ReadsTables (lines.View name) s = ⊥
-ReadsTables (lines.Get name key) s = HasTables s
-ReadsTables (lines.GetTagged name key) s = HasTables s
-ReadsTables (lines.Scan name low high limit way) s = HasTables s
+ReadsTables (lines.Get name key) s = HasTables s × AsksForKey (thing_of s.store name) key
+ReadsTables (lines.GetTagged name key) s = HasTables s × AsksForKey (thing_of s.store name) key
+ReadsTables (lines.Scan name low high limit way) s = HasTables s × AsksForRows (thing_of s.store name) low high
 ReadsTables (lines.Set name key value) s = ⊥
 ReadsTables (lines.SetTagged name key value tag) s = ⊥
 ReadsTables (lines.Delete name key) s = ⊥
@@ -45,7 +65,8 @@ ReadsTables (lines.Drop name) s = ⊥
 ReadsTables lines.Rotate s = ⊥
 ReadsTables lines.Flush s = ⊥
 ReadsTables (lines.Keep versions) s = ⊥
-ReadsTables (lines.GetAt name key number) s = HasTables s
+ReadsTables (lines.GetAt name key number) s =
+    HasTables s × (is_key_length (length key) ≡ true) × ReadsUpTo (thing_of s.store name) number
 ReadsTables (lines.Plan name) s = HasTables s
 ReadsTables (lines.Drain name segment) s = HasTables s
 ReadsTables (lines.Install name) s = ⊥

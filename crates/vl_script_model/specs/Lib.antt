@@ -1,5 +1,6 @@
 pub mod Asking
 pub mod Between
+pub mod Called
 pub mod Contents
 pub mod Durable
 pub mod Endings

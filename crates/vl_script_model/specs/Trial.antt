@@ -7,7 +7,7 @@ use Rattle.vl_mem.specs.declared.outcome.Outcome.{Outcome}
 use Rattle.vl_model.specs.History.{contents_at, last_number}
 use Rattle.vl_script.specs.Script.{lines_of}
 use Rattle.vl_script_model.specs.Endings.{bad_line, last_line, no_memory_line, read_fault_line}
-use Rattle.vl_script_model.specs.Exchanges.{Exchange, answers_text, exchanges_from, last_state}
+use Rattle.vl_script_model.specs.Exchanges.{Exchange, KeepsUp, answers_text, exchanges_from, last_state}
 use Rattle.vl_script_model.specs.Reopens.{state_left}
 use Rattle.vl_script_model.specs.Runs.{IsFront}
 use Rattle.vl_script_model.specs.Sequential.{State, answer_text, history_of}
@@ -126,3 +126,15 @@ EndsTrial t held held' left WriteFault =
 EndsTrial t held held' left AnswerCut =
     (count : ℕ) × (piece : List ℕ) × IsAnswerFront t count piece × TakesFirst t held held' count piece
 EndsTrial t held held' left Stopped = ⊥
+
+-- ---- when its answers are put
+
+-- Each answer was put whole before the next line was read: the sink took the answers to so many first lines, and then some piece; and
+-- when the source was last asked, no more lines had ended in what it had given.
+abbrev pub PutsInTime : Trial → (held held' asked : Option (List ℕ)) → Type 0
+PutsInTime t held held' asked = (count : ℕ) × (piece : List ℕ) × TakesFirst t held held' count piece × KeepsUp t.input asked count
+
+-- So it is with a trial; unless it met the stop, behind which it reads the lines that it passes over: then all its answers were put.
+abbrev pub TriesInTime : Trial → (held held' asked : Option (List ℕ)) → Type 0
+TriesInTime t held held' asked = PutsInTime t held held' asked
+    ⊎ (MeetsStop t × ((piece : List ℕ) × TakesFirst t held held' (length (answered_lines t)) piece))

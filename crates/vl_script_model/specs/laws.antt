@@ -1,6 +1,7 @@
 -- Laws of what scripts come to, by matter, which proofs in other crates cite.
 pub mod AskingLaws
 pub mod Betweens
+pub mod Calling
 pub mod DiskSteps
 pub mod Ends
 pub mod Explained

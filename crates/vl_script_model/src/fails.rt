@@ -31,6 +31,9 @@ pub enum Halt {
     /// A read failed at this file.
     #[error("disk fault")]
     Read { name: Name },
+    /// The engine was halted by a fault at this file before. A replayer stops at the first fault, and comes never here.
+    #[error("disk fault")]
+    Halted { name: Name },
     /// A read met bytes of this file that aren't what should stand at this place.
     #[error("damaged")]
     Damaged { name: Name, place: u64 },

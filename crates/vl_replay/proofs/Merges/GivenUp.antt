@@ -74,6 +74,7 @@ by_reader : (halt : Halt) → HaltsByReader {T = Answer} (Err halt) → HaltsByR
 by_reader halts.NoMemory by = by
 by_reader (halts.Disk file) by = by
 by_reader (halts.Read file) by = by
+by_reader (halts.Halted file) by = by
 by_reader (halts.Damaged file place) by = by
 
 -- an engine that stands for a state that isn't halted isn't
@@ -291,6 +292,7 @@ module _ {D W H R S : Type 0} (g : Ghosts D) (watched : IsWatched g) (w : Writer
     where_failed halts.NoMemory far by = absurd by
     where_failed (halts.Disk file) far by = (far.0, far.1)
     where_failed (halts.Read file) far by = absurd by
+    where_failed (halts.Halted file) far by = absurd by
     where_failed (halts.Damaged file place) far by = absurd by
 
     pub stopped_leads : HoldsState g IsStored s old → LeadsTo {T = Answer} g IsStored Shown IsStopped old new s behind (Err halt)
@@ -309,6 +311,7 @@ module _ {D W H R S : Type 0} (g : Ghosts D) (watched : IsWatched g) (w : Writer
         of halts.NoMemory far damaged = damaged
         of (halts.Disk file) far damaged = damaged
         of (halts.Read file) far damaged = damaged
+        of (halts.Halted file) far damaged = damaged
         of (halts.Damaged file place) far damaged = far
 
     pub stopped_named : (manifest : ℕ) (file : FileName)
@@ -331,6 +334,7 @@ module _ {D W H R S : Type 0} (g : Ghosts D) (watched : IsWatched g) (w : Writer
             its_file : (f : FileName) → halts.Disk f ≡ halts.Disk file → f ≡ file
             its_file f e = cc
         of (halts.Read other) far same = absurd cc
+        of (halts.Halted other) far same = absurd cc
         of (halts.Damaged other place) far same = absurd cc
 
 -- ---- its fault

@@ -330,7 +330,7 @@ install_named w bytes job j thing there has_all manifest before now name (at_man
 
 abbrev pub install_answer : {V H W : Type 0} {k : _} → Result (Unit {0}) (InstallFail V H W k) → Result Answer Halt
 install_answer (Ok done) = Ok answers.Done
-install_answer (Err (uninstalled.Halted file)) = Err (why.Read file)
+install_answer (Err (uninstalled.Halted file)) = Err (why.Halted file)
 install_answer (Err (uninstalled.Raced key number)) = Ok (answers.Raced key)
 install_answer (Err (uninstalled.Exhausted counter)) = Ok (answers.Exhausted counter)
 install_answer (Err (uninstalled.NoMemory job)) = Err why.NoMemory

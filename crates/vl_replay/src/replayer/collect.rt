@@ -18,9 +18,11 @@ ghost use Rattle.vl_replay.specs.Handed.{CanHandIn, KeepsLent};
 ghost use Rattle.vl_replay_laws.specs.Passing.{PassesIn, TakesPass, halt_at};
 ghost use Rattle.vl_replay_laws.specs.Replaying.{MakesStep, MergesIn, OnlyNoMemory, state_by};
 ghost use Rattle.vl_replay.specs.Served.{RemovesIn, ServesFor, StandsPassing, StandsWith};
+ghost use Rattle.vl_replay.specs.AsCalled.{AnswersBatch, AnswersMove};
 ghost use Rattle.vl_script_model.specs.Sequential.{State, segment_line};
 ghost use Rattle.vl_script_model.specs.Stored.{IsStopped, IsStored};
 ghost use Rattle.vl_script_model.specs.declared.fails.Halt.TheVariants as halts;
+ghost use Rattle.vl_steps.specs.Relocating.{at};
 
 use crate::replayer::{Served, merge};
 use std::alloc::{AllocError, Global};
@@ -141,6 +143,8 @@ pub(super) fn batch<D: Disk>(
     ensures undamaged { (s : State) → StandsPassing D.Watched D.Held.bytes served.now passing.old s → HaltsByDamage result → ⊥ }
     ensures fault { HaltsByReader result → ReaderFailed D.Reader.faults }
     ensures not_the_disk { HaltsByDisk result → ⊥ }
+    // Whatever the disk holds, it is answered what the pass gave.
+    ensures as_called { AnswersBatch D.Held.bytes passing.old name result }
 {
     let Some(going) = passing else {
         return Ok(Answer::Unknown { name });
@@ -208,6 +212,10 @@ pub(super) fn move_batch<D: Disk>(
     // A merge that is open is told of what was moved, and else stays.
     ensures merging { KeepsLent served.old.engine.merging served.new.engine.merging }
     ensures untold { OnOk result (StaysUntold (D.told served.old.engine.disk) (D.told served.new.engine.disk)) }
+    // Whatever the disk holds, it is answered what the move came to.
+    ensures as_called { AnswersMove D.Watched D.Held.bytes passing.old (λ r. D.Reader.faults r)
+        (at served.old.engine.disk served.old.engine.core served.old.engine.merging)
+        (at served.new.engine.disk served.new.engine.core served.new.engine.merging) name result }
 {
     let Some(going) = passing else {
         return Ok(Answer::Unknown { name });
@@ -244,8 +252,7 @@ pub(super) fn move_batch<D: Disk>(
                 ..
             },
         ) => Err(Halt::Damaged { name: file, place }),
-        // An engine that is halted already: a replayer stops at the first fault, and comes never here.
-        Err(MoveFail::Halted { name: file }) => Err(Halt::Read { name: file }),
+        Err(MoveFail::Halted { name: file }) => Err(Halt::Halted { name: file }),
     }
 }
 

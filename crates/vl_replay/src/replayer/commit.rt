@@ -8,7 +8,7 @@ ghost use Rattle.vl_engine_laws.specs.Shown.{Shown};
 ghost use Rattle.vl_engine_model.specs.Store.Reading.{commit_by};
 ghost use Rattle.vl_engine_model.specs.Store.Things.{thing_of};
 ghost use Rattle.vl_script_model.specs.Durable.{CarriesOut};
-ghost use Rattle.vl_script_model.specs.Halts.{HaltsByDisk, HaltsByRead};
+ghost use Rattle.vl_script_model.specs.Halts.{HaltsByDisk, HaltsByRead, ReadsWell};
 ghost use Rattle.vl_replay_laws.specs.Replaying.{MakesStep, state_by};
 ghost use Rattle.vl_replay.specs.Served.{RemovesIn, ServesFor};
 ghost use Rattle.vl_script_model.specs.Sequential.{State};
@@ -33,6 +33,8 @@ impl<D: Disk> Served<D> {
             → CarriesOut D.Watched IsStored Shown IsStopped self.old.engine.disk self.new.engine.disk s
             (state_by s (commit_by s.store name (thing_of s.store name))) result }
         ensures sound { (s : State) → ServesFor D.Watched D.Held.bytes self.old s → HaltsByRead result → ⊥ }
+        // It reads nothing.
+        ensures reads_well { ReadsWell result }
         ensures cause { HasCause (D.faults self.old.engine.disk) (D.faults self.new.engine.disk) (HaltsByDisk result) }
         ensures named { (s : State) (file : Name) → ServesFor D.Watched D.Held.bytes self.old s
             → result ≡ Err (halts.Disk file) → file ≡ names.Log s.store.layout.active.number }
@@ -65,8 +67,7 @@ impl<D: Disk> Served<D> {
                 }
                 Err(CommitFail::NoMemory(_)) => Err(Halt::NoMemory),
                 Err(CommitFail::Disk { name: file }) => Err(Halt::Disk { name: file }),
-                // An engine that is halted already: a replayer stops at the first fault, and comes never here.
-                Err(CommitFail::Halted { name: file }) => Err(Halt::Read { name: file }),
+                Err(CommitFail::Halted { name: file }) => Err(Halt::Halted { name: file }),
             },
         }
     }

@@ -8,7 +8,7 @@ ghost use Rattle.vl_engine_laws.specs.Shown.{Shown};
 ghost use Rattle.vl_engine_model.specs.Rulings.Keep.{keep_ruling};
 ghost use Rattle.vl_engine_model.specs.Store.Dispatch.{keep_by};
 ghost use Rattle.vl_script_model.specs.Durable.{CarriesOut};
-ghost use Rattle.vl_script_model.specs.Halts.{HaltsByDisk, HaltsByRead};
+ghost use Rattle.vl_script_model.specs.Halts.{HaltsByDisk, HaltsByRead, ReadsWell};
 ghost use Rattle.vl_replay_laws.specs.Replaying.{MakesStep, state_by};
 ghost use Rattle.vl_replay.specs.Served.{RemovesIn, ServesFor};
 ghost use Rattle.vl_script_model.specs.Sequential.{State, history_of};
@@ -32,6 +32,8 @@ impl<D: Disk> Served<D> {
             → CarriesOut D.Watched IsStored Shown IsStopped self.old.engine.disk self.new.engine.disk s
             (state_by s (keep_by s.store (keep_ruling s.store.layout (history_of s) versions))) result }
         ensures sound { (s : State) → ServesFor D.Watched D.Held.bytes self.old s → HaltsByRead result → ⊥ }
+        // It reads nothing.
+        ensures reads_well { ReadsWell result }
         ensures cause { HasCause (D.faults self.old.engine.disk) (D.faults self.new.engine.disk) (HaltsByDisk result) }
         ensures named { (file : Name) → result ≡ Err (halts.Disk file)
             → file ≡ names.Manifest self.old.engine.core.back.manifest.number }
@@ -55,7 +57,6 @@ fn keep_answer(kept: Result<(), KeepFail>) -> Result<Answer, Halt>
         Err(KeepFail::InvalidRequest) => Ok(Answer::Invalid),
         Err(KeepFail::NoMemory) => Err(Halt::NoMemory),
         Err(KeepFail::Disk { name }) => Err(Halt::Disk { name }),
-        // An engine that is halted already: a replayer stops at the first fault, and comes never here.
-        Err(KeepFail::Halted { name }) => Err(Halt::Read { name }),
+        Err(KeepFail::Halted { name }) => Err(Halt::Halted { name }),
     }
 }

@@ -1,5 +1,5 @@
 //! A script's lines, one after the other.
-ghost use Rattle.std.specs.Prelude.{◌≡◌, ◌||◌, Err, false, IfOk, None, OnOk, Some};
+ghost use Rattle.std.specs.Prelude.{◌≡◌, ◌||◌, Err, false, IfOk, None, Ok, OnOk, Some};
 ghost use Rattle.std.specs.Option.{is_some, option_map, option_map_or};
 ghost use Rattle.std.specs.Str.{bytes_eq};
 ghost use Rattle.vl_disk.specs.Faults.{HasCause};
@@ -9,6 +9,7 @@ ghost use Rattle.vl_engine_laws.specs.Shown.{Shown};
 ghost use Rattle.vl_script_model.specs.Durable.{CarriesOut};
 ghost use Rattle.vl_script_model.specs.Failing.{FailsAt, ReaderFailed, ReadsTables, beside};
 ghost use Rattle.vl_script_model.specs.Halts.{HaltsByDamage, HaltsByDisk, HaltsByRead, HaltsByReader};
+ghost use Rattle.vl_replay.specs.AsCalled.{AnswersAsCalled, AnswersLine};
 ghost use Rattle.vl_replay.specs.Handed.{CanHandIn};
 ghost use Rattle.vl_replay_laws.specs.Passing.{PassesIn, TellsUsed, name_made};
 ghost use Rattle.vl_replay_laws.specs.Replaying.{MakesStep, MergesIn};
@@ -51,6 +52,11 @@ impl<D: Disk> Replayer<D> {
         // However the line ends, a store may be opened on the disk again.
         ensures carries { TakesLines self.old → (s : State) → StandsFor D.Watched D.Writer.Writer D.Held.bytes self.old s
             → CarriesOut D.Watched IsStored Shown IsStopped (disk_of self.old) (disk_of self.new) s (state_after s line) result }
+
+        // Whatever the disk holds, a line that reads is answered what the engine's call gave, and no other one meets damage or a read
+        // that fails.
+        ensures as_called { TakesLines self.old
+            → AnswersAsCalled D.Watched D.Held.bytes (λ r. D.Reader.faults r) D.Writer.Writer self.old self.new line result }
 
         // What the store has isn't damaged. Only a line that reads tables, or goes on with a pass, asks a reader, which counts its
         // fault.
@@ -135,8 +141,9 @@ fn name_in_use<D: Disk>(
     passing: &Option<Passing<Base<D::Held, D::Reader>, D::Held>>,
     line: &Line,
 ) -> Result<Option<Ident>, AllocError>
-    ensures { (s : State) → StandsWith D.Watched D.Writer.Writer D.Held.bytes served.now planned.now passing.now s
+    ensures used { (s : State) → StandsWith D.Watched D.Writer.Writer D.Held.bytes served.now planned.now passing.now s
         → IfOk result (TellsUsed s line.now) }
+    ensures unnamed { name_made line.now ≡ None → result ≡ Ok None }
 {
     let Some(name) = name_made(line) else {
         return Ok(None);
@@ -180,6 +187,8 @@ fn carry_out<D: Disk>(
         → OnOk result (RemovesIn served.new (step_to s line).state) }
     ensures carries { (s : State) → StandsWith D.Watched D.Writer.Writer D.Held.bytes served.old planned.old passing.old s
         → CarriesOut D.Watched IsStored Shown IsStopped served.old.engine.disk served.new.engine.disk s (state_after s line) result }
+    ensures as_called { AnswersLine D.Watched D.Held.bytes (λ r. D.Reader.faults r) D.Writer.Writer served.old served.new passing.old
+        line result }
     ensures sound { (s : State) → StandsWith D.Watched D.Writer.Writer D.Held.bytes served.old planned.old passing.old s
         → HaltsByRead result → ReadsTables line s }
     ensures undamaged { (s : State) → StandsWith D.Watched D.Writer.Writer D.Held.bytes served.old planned.old passing.old s

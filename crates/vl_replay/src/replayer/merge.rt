@@ -21,7 +21,8 @@ ghost use Rattle.vl_model.specs.History.{History};
 ghost use Rattle.vl_replay_laws.specs.Choosing.{chosen, line_for};
 ghost use Rattle.vl_script_model.specs.Durable.{CarriesOut};
 ghost use Rattle.vl_script_model.specs.Failing.{FailsAt, HasTables, ReaderFailed, beside};
-ghost use Rattle.vl_script_model.specs.Halts.{HaltsByDamage, HaltsByDisk, HaltsByRead, HaltsByReader};
+ghost use Rattle.vl_script_model.specs.Halts.{HaltsByDamage, HaltsByDisk, HaltsByRead, HaltsByReader, ReadsWell};
+ghost use Rattle.vl_replay.specs.AsCalled.{AnswersPlan, IsMergeBy};
 ghost use Rattle.vl_replay.specs.Handed.{CanHandIn};
 ghost use Rattle.vl_replay_laws.specs.Passing.{NamesNoPass};
 ghost use Rattle.vl_replay_laws.specs.Replaying.{MakesStep, MergesIn, TakesPlanned, state_by};
@@ -139,6 +140,9 @@ pub(super) fn plan<D: Disk>(
     ensures named { (s : State) (file : Name) → StandsMerging D.Watched D.Writer.Writer D.Held.bytes served.old planned.old s
         → thing_of s.store name ≡ None
         → result ≡ Err (halts.Disk file) → FailsAt served.old.engine.core.back.manifest.number (line_for choice name) s file }
+    // Whatever the disk holds, it is halted by what reading for its merge met.
+    ensures as_called { AnswersPlan D.Held.bytes (λ r. D.Reader.faults r) D.Writer.Writer choice served.old.engine.core.version
+        result }
     ensures collecting { served.new.engine.collecting ≡ served.old.engine.collecting }
     ensures logs { served.new.engine.core.version.behind.logs ≡ served.old.engine.core.version.behind.logs }
     ensures handed { OnOk result (CanHandIn D.Watched D.Writer.Writer served.new.engine.disk served.new.engine.merging planned.new) }
@@ -192,6 +196,9 @@ fn choose<D: Disk>(
     ensures new { IfOk result (λ job. ForSome job IsNew) }
     ensures looks { (h : History) (l : Layout) → StandsOpen D.Held.bytes engine.old.core engine.old.merging h l
         → IfOk result (λ job. ForSome job (FitsReaders D.Held.bytes)) }
+    // A merge that is due is one of what the engine has.
+    ensures base { IfOk result (λ job. ForSome job
+        (IsMergeBy D.Held.bytes (λ r. D.Reader.faults r) D.Writer.Writer choice engine.old.core.version)) }
     ensures merging { OpensMerge engine.old.merging engine.new.merging result }
     ensures core { engine.new.core ≡ engine.old.core }
     ensures disk { engine.new.disk ≡ engine.old.disk }
@@ -219,6 +226,8 @@ pub(super) fn install<D: Disk>(
         → CarriesOut D.Watched IsStored Shown IsStopped served.old.engine.disk served.new.engine.disk s
         (state_after s (lines.Install name)) result }
     ensures sound { (s : State) → StandsMerging D.Watched D.Writer.Writer D.Held.bytes served.old planned.old s → HaltsByRead result → ⊥ }
+    // It reads nothing.
+    ensures reads_well { ReadsWell result }
     ensures cause { HasCause (D.faults served.old.engine.disk) (D.faults served.new.engine.disk) (HaltsByDisk result) }
     ensures named { (s : State) (file : Name) → StandsMerging D.Watched D.Writer.Writer D.Held.bytes served.old planned.old s
         → result ≡ Err (halts.Disk file) → FailsAt served.old.engine.core.back.manifest.number (lines.Install name) s file }
@@ -242,7 +251,6 @@ pub(super) fn install<D: Disk>(
             Err(Halt::NoMemory)
         }
         Err(InstallFail::Disk { name: file }) => Err(Halt::Disk { name: file }),
-        // An engine that is halted already: a replayer stops at the first fault, and comes never here.
-        Err(InstallFail::Halted { name: file }) => Err(Halt::Read { name: file }),
+        Err(InstallFail::Halted { name: file }) => Err(Halt::Halted { name: file }),
     }
 }

@@ -7,8 +7,9 @@ ghost use Rattle.vl_script_model.specs.Halts.{HaltsByDamage, HaltsByDisk, HaltsB
 ghost use Rattle.vl_script_model.specs.Readers.{IsWithoutTables};
 ghost use Rattle.vl_replay_laws.specs.Replaying.{MakesStep, OnlyNoMemory};
 ghost use Rattle.vl_replay.specs.Served.{ServesFor};
+ghost use Rattle.vl_replay.specs.AsCalled.{AnswersGet, AnswersPast, AnswersScan};
 ghost use Rattle.vl_script_model.specs.Sequential.{State};
-ghost use Rattle.vl_replay_laws.specs.Standing.{tell_of, read_answer, past_answer, value_answer};
+ghost use Rattle.vl_replay_laws.specs.Standing.{open_in, tell_of, read_answer, past_answer, value_answer};
 ghost use Rattle.vl_script.specs.declared.answer.Answer.TheVariants.{Rows as TheRows};
 
 use crate::replayer::Served;
@@ -29,6 +30,9 @@ impl<D: Disk> Served<D> {
         ensures undamaged { (s : State) → ServesFor D.Watched D.Held.bytes self.old s → HaltsByDamage result → ⊥ }
         ensures fault { HaltsByReader result → ReaderFailed D.Reader.faults }
         ensures not_the_disk { HaltsByDisk result → ⊥ }
+        // Whatever the disk holds, it is answered what the read gave.
+        ensures as_called { AnswersGet D.Held.bytes (open_in self.old.opens.items name) (open_in self.new.opens.items name)
+            (λ r. D.Reader.faults r.inner) name with_tag key result }
         ensures engine { self.new.engine ≡ self.old.engine }
     {
         let Some(at) = place(&self.opens, name.as_slice()) else {
@@ -49,6 +53,9 @@ impl<D: Disk> Served<D> {
         ensures undamaged { (s : State) → ServesFor D.Watched D.Held.bytes self.old s → HaltsByDamage result → ⊥ }
         ensures fault { HaltsByReader result → ReaderFailed D.Reader.faults }
         ensures not_the_disk { HaltsByDisk result → ⊥ }
+        // Whatever the disk holds, it is answered what the read gave.
+        ensures as_called { AnswersPast D.Held.bytes (open_in self.old.opens.items name) (open_in self.new.opens.items name)
+            (λ r. D.Reader.faults r.inner) name key number result }
         ensures engine { self.new.engine ≡ self.old.engine }
     {
         let Some(at) = place(&self.opens, name.as_slice()) else {
@@ -77,6 +84,9 @@ impl<D: Disk> Served<D> {
         ensures undamaged { (s : State) → ServesFor D.Watched D.Held.bytes self.old s → HaltsByDamage result → ⊥ }
         ensures fault { HaltsByReader result → ReaderFailed D.Reader.faults }
         ensures not_the_disk { HaltsByDisk result → ⊥ }
+        // Whatever the disk holds, it is answered what the scan gave.
+        ensures as_called { AnswersScan D.Held.bytes (open_in self.old.opens.items name) (open_in self.new.opens.items name)
+            (λ r. D.Reader.faults r.inner) name low high result }
         ensures engine { self.new.engine ≡ self.old.engine }
     {
         let Some(at) = place(&self.opens, name.as_slice()) else {

@@ -9,7 +9,7 @@ ghost use Rattle.vl_space.specs.Collecting.{Collects};
 ghost use Rattle.vl_engine_model.specs.Rulings.Rotate.{rotate_ruling};
 ghost use Rattle.vl_engine_model.specs.Store.Dispatch.{step_by};
 ghost use Rattle.vl_script_model.specs.Durable.{CarriesOut};
-ghost use Rattle.vl_script_model.specs.Halts.{HaltsByDisk, HaltsByRead};
+ghost use Rattle.vl_script_model.specs.Halts.{HaltsByDisk, HaltsByRead, ReadsWell};
 ghost use Rattle.vl_replay_laws.specs.Replaying.{MakesStep, state_by_step};
 ghost use Rattle.vl_replay.specs.Served.{RemovesIn, ServesFor, StandsRemoving};
 ghost use Rattle.vl_script_model.specs.Sequential.{State, history_of};
@@ -32,6 +32,8 @@ impl<D: Disk> Served<D> {
             → CarriesOut D.Watched IsStored Shown IsStopped self.old.engine.disk self.new.engine.disk s
             (state_by_step s (step_by s.store (rotate_ruling s.store.layout (history_of s)))) result }
         ensures sound { (s : State) → ServesFor D.Watched D.Held.bytes self.old s → HaltsByRead result → ⊥ }
+        // It reads nothing.
+        ensures reads_well { ReadsWell result }
         ensures cause { HasCause (D.faults self.old.engine.disk) (D.faults self.new.engine.disk) (HaltsByDisk result) }
         ensures named { (s : State) (file : Name) → ServesFor D.Watched D.Held.bytes self.old s
             → result ≡ Err (halts.Disk file)

@@ -18,7 +18,6 @@ pub(super) fn step_answer(stepped: Result<Option<u32>, StepFail>) -> Result<Answ
         Err(StepFail::Exhausted(counter)) => Ok(Answer::Exhausted { counter }),
         Err(StepFail::NoMemory) => Err(Halt::NoMemory),
         Err(StepFail::Disk { name }) => Err(Halt::Disk { name }),
-        // An engine that is halted already: a replayer stops at the first fault, and comes never here.
-        Err(StepFail::Halted { name }) => Err(Halt::Read { name }),
+        Err(StepFail::Halted { name }) => Err(Halt::Halted { name }),
     }
 }

@@ -10,7 +10,7 @@ ghost use Rattle.vl_engine_model.specs.Rulings.Sweep.{sweep_ruling, swept};
 ghost use Rattle.vl_engine_model.specs.Stock.{is_in};
 ghost use Rattle.vl_engine_model.specs.Store.Dispatch.{sweep_by};
 ghost use Rattle.vl_script_model.specs.Durable.{CarriesOut};
-ghost use Rattle.vl_script_model.specs.Halts.{HaltsByDisk, HaltsByRead};
+ghost use Rattle.vl_script_model.specs.Halts.{HaltsByDisk, HaltsByRead, ReadsWell};
 ghost use Rattle.vl_replay_laws.specs.Replaying.{MakesStep, state_by};
 ghost use Rattle.vl_replay.specs.Served.{RemovesIn, StandsRemoving};
 ghost use Rattle.vl_script_model.specs.Sequential.{State, history_of};
@@ -39,6 +39,8 @@ impl<D: Disk> Served<D> {
             → CarriesOut D.Watched IsStored Shown IsStopped self.old.engine.disk self.new.engine.disk s
             (state_by s (sweep_by s.store (sweep_ruling s.store.layout (history_of s)))) result }
         ensures sound { (s : State) → StandsRemoving D.Watched D.Held.bytes self.old s → HaltsByRead result → ⊥ }
+        // It reads nothing.
+        ensures reads_well { ReadsWell result }
         ensures cause { HasCause (D.faults self.old.engine.disk) (D.faults self.new.engine.disk) (HaltsByDisk result) }
         ensures named { (s : State) (file : Name) → StandsRemoving D.Watched D.Held.bytes self.old s
             → result ≡ Err (halts.Disk file) → is_in (file_of file) (swept None s.store.layout) ≡ true }
@@ -56,7 +58,6 @@ fn sweep_answer(swept: Result<u64, SweepFail>) -> Result<Answer, Halt>
     match swept {
         Ok(count) => Ok(Answer::Removed { count }),
         Err(SweepFail::Disk { name }) => Err(Halt::Disk { name }),
-        // An engine that is halted already: a replayer stops at the first fault, and comes never here.
-        Err(SweepFail::Halted { name }) => Err(Halt::Read { name }),
+        Err(SweepFail::Halted { name }) => Err(Halt::Halted { name }),
     }
 }

@@ -1,7 +1,7 @@
 -- Where memory ran out, no disk failed.
 use Rattle.std.proofs.Common.{◌≡◌, Result, Ok, Err, sym, ◌∙◌, ap, subst}
 use Rattle.std.specs.Prelude.{IfErr, IsErrAnd}
-use Rattle.vl_script_model.specs.Halts.{HaltsByDisk, HaltsByRead}
+use Rattle.vl_script_model.specs.Halts.{HaltsByDisk, HaltsByRead, ReadsWell}
 use Rattle.vl_script_model.specs.declared.fails.Halt.{Halt}
 use Rattle.vl_script_model.specs.declared.fails.Halt.TheVariants as why
 
@@ -11,6 +11,7 @@ not_by_disk (Ok answer) out by = by
 not_by_disk (Err why.NoMemory) out by = by
 not_by_disk (Err (why.Disk name)) out by = cc
 not_by_disk (Err (why.Read name)) out by = by
+not_by_disk (Err (why.Halted name)) out by = by
 not_by_disk (Err (why.Damaged name place)) out by = by
 
 pub out_not_by_disk : {T : Type 0} (result : Result T Halt) → IsErrAnd result (λ halt. halt ≡ why.NoMemory) → HaltsByDisk result → ⊥
@@ -23,6 +24,7 @@ out_readable (Ok answer) out by = by
 out_readable (Err why.NoMemory) out by = by
 out_readable (Err (why.Disk name)) out by = by
 out_readable (Err (why.Read name)) out by = cc
+out_readable (Err (why.Halted name)) out by = cc
 out_readable (Err (why.Damaged name place)) out by = cc
 
 -- a halt that is handed on is the same
@@ -31,6 +33,7 @@ pub by_disk_still : {T U : Type 0} (carried : Result U Halt) (result : Result T 
 by_disk_still carried (Ok answer) halt was is by = absurd by
 by_disk_still {U = U} carried (Err why.NoMemory) halt was is by = absurd by
 by_disk_still {U = U} carried (Err (why.Read name)) halt was is by = absurd by
+by_disk_still {U = U} carried (Err (why.Halted name)) halt was is by = absurd by
 by_disk_still {U = U} carried (Err (why.Damaged name place)) halt was is by = absurd by
 by_disk_still {U = U} carried (Err (why.Disk name)) halt was is by = subst (λ (r : Result U Halt). HaltsByDisk r) (ap Err is ∙ sym was) tt
 
@@ -40,5 +43,19 @@ by_read_still carried (Ok answer) halt was is by = absurd by
 by_read_still carried (Err why.NoMemory) halt was is by = absurd by
 by_read_still carried (Err (why.Disk name)) halt was is by = absurd by
 by_read_still {U = U} carried (Err (why.Read name)) halt was is by = subst (λ (r : Result U Halt). HaltsByRead r) (ap Err is ∙ sym was) tt
+by_read_still {U = U} carried (Err (why.Halted name)) halt was is by = subst (λ (r : Result U Halt). HaltsByRead r) (ap Err is ∙ sym was) tt
 by_read_still {U = U} carried (Err (why.Damaged name place)) halt was is by = subst
     (λ (r : Result U Halt). HaltsByRead r) (ap Err is ∙ sym was) tt
+
+-- nor does one then meet anything
+pub out_reads_well : {T : Type 0} (result : Result T Halt) → IfErr result (λ halt. halt ≡ why.NoMemory) → ReadsWell result
+out_reads_well (Ok answer) out = tt
+out_reads_well (Err why.NoMemory) out = tt
+out_reads_well (Err (why.Disk name)) out = tt
+out_reads_well (Err (why.Read name)) out = absurd cc
+out_reads_well (Err (why.Halted name)) out = tt
+out_reads_well (Err (why.Damaged name place)) out = absurd cc
+
+pub err_reads_well : {T : Type 0} (result : Result T Halt) → IsErrAnd result (λ halt. halt ≡ why.NoMemory) → ReadsWell result
+err_reads_well (Ok answer) out = tt
+err_reads_well {T} (Err halt) out = out_reads_well {T = T} (Err halt) out

@@ -70,6 +70,12 @@ by_read {T = T} r name is = subst (λ (x : Result T Halt). HaltsByRead x) (sym i
 pub is_damage : {T : Type 0} (r : Result T Halt) (name : Name) (place : ℕ) → r ≡ Err (why.Damaged name place) → HaltsByDamage r
 is_damage {T = T} r name place is = subst (λ (x : Result T Halt). HaltsByDamage x) (sym is) tt
 
+pub by_halt : {T : Type 0} (r : Result T Halt) (name : Name) → r ≡ Err (why.Halted name) → HaltsByRead r
+by_halt {T = T} r name is = subst (λ (x : Result T Halt). HaltsByRead x) (sym is) tt
+
+pub was_halted : {T : Type 0} (r : Result T Halt) (name : Name) → r ≡ Err (why.Halted name) → HaltsByReader r
+was_halted {T = T} r name is = subst (λ (x : Result T Halt). HaltsByReader x) (sym is) tt
+
 pub is_unread : {T : Type 0} (r : Result T Halt) (name : Name) → r ≡ Err (why.Read name) → HaltsByReader r
 is_unread {T = T} r name is = subst (λ (x : Result T Halt). HaltsByReader x) (sym is) tt
 
@@ -79,6 +85,7 @@ out_undamaged (Ok answer) out by = by
 out_undamaged (Err why.NoMemory) out by = by
 out_undamaged (Err (why.Disk name)) out by = by
 out_undamaged (Err (why.Read name)) out by = by
+out_undamaged (Err (why.Halted name)) out by = by
 out_undamaged (Err (why.Damaged name place)) out by = cc
 
 pub out_not_by_reader : {T : Type 0} (r : Result T Halt) → IsErrAnd r (λ halt. halt ≡ why.NoMemory) → HaltsByReader r → ⊥
@@ -86,6 +93,7 @@ out_not_by_reader (Ok answer) out by = by
 out_not_by_reader (Err why.NoMemory) out by = by
 out_not_by_reader (Err (why.Disk name)) out by = by
 out_not_by_reader (Err (why.Read name)) out by = cc
+out_not_by_reader (Err (why.Halted name)) out by = cc
 out_not_by_reader (Err (why.Damaged name place)) out by = by
 
 -- a halt that is handed on is the same
@@ -95,6 +103,7 @@ by_damage_still carried (Ok answer) halt was is by = absurd by
 by_damage_still carried (Err why.NoMemory) halt was is by = absurd by
 by_damage_still carried (Err (why.Disk name)) halt was is by = absurd by
 by_damage_still carried (Err (why.Read name)) halt was is by = absurd by
+by_damage_still carried (Err (why.Halted name)) halt was is by = absurd by
 by_damage_still {U = U} carried (Err (why.Damaged name place)) halt was is by =
     subst (λ (r : Result U Halt). HaltsByDamage r) (ap Err is ∙ sym was) tt
 
@@ -105,6 +114,8 @@ by_reader_still carried (Err why.NoMemory) halt was is by = absurd by
 by_reader_still carried (Err (why.Disk name)) halt was is by = absurd by
 by_reader_still carried (Err (why.Damaged name place)) halt was is by = absurd by
 by_reader_still {U = U} carried (Err (why.Read name)) halt was is by =
+    subst (λ (r : Result U Halt). HaltsByReader r) (ap Err is ∙ sym was) tt
+by_reader_still {U = U} carried (Err (why.Halted name)) halt was is by =
     subst (λ (r : Result U Halt). HaltsByReader r) (ap Err is ∙ sym was) tt
 
 -- ---- the state behind a text

@@ -27,7 +27,7 @@ use Rattle.vl_script_model.specs.Runs.{EndsRun, Outside, Script, course, exchang
 use Rattle.vl_script_model.specs.Sequential.{State, history_of}
 use Rattle.vl_script_model.specs.Stored.{IsStopped, IsStored}
 use Rattle.vl_engine_laws.specs.Shown.{Shown}
-use Rattle.vl_script_model.specs.Trial.{MeetsStop, TakesFirst, Trial, answered_lines, at_stop, before_stop, begun}
+use Rattle.vl_script_model.specs.Trial.{MeetsStop, PutsInTime, TakesFirst, Trial, answered_lines, at_stop, before_stop, begun}
 use Rattle.vl_script_model.specs.Trial.{reopened_state, state_behind_stop, stopped_line}
 use Rattle.vl_script_model.specs.Trying.{ComesTo, IsOnTrial, trial_of}
 use Rattle.vl_script_model.specs.declared.ending.Ending.{Ending}
@@ -248,6 +248,11 @@ module _ (stop : ℕ) (small : stop < 2 ^ 32) (input : List ℕ) (stands : State
           (sym (stop_state o))
           (subst (λ (d : DiskState). Reopens (crash_image o d) (history_of (state_left o (nat_le (last.calls + 1) stop) last most))
           (last_number (history_of (state_left o (nat_le (last.calls + 1) stop) last most)))) (sym here) again)
+
+  -- ---- when its answers are put
+
+  pub puts_in_time : (ending : Ending) → Run ending → (o : Outcome) → PutsInTime (t o) old.held new.held new.asked
+  puts_in_time ending run o = (run.answered, run.ends.piece, takes_first ending run o run.ends.piece refl, run.kept_up)
 
   -- ---- by its ending
 

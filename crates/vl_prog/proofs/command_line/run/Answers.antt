@@ -2,11 +2,12 @@ use Rattle.std.proofs.Common.{◌≡◌, ◌≢◌, ◌<◌, ◌≤◌, ⊎_elim
 use Rattle.std.specs.Prelude.{map, string_bytes}
 use Rattle.vl_mem.specs.declared.outcome.Outcome.{Outcome}
 use Rattle.vl_engine_model.specs.Store.Commits.{AreProper}
-use Rattle.vl_script_model.specs.Trial.{EndsTrial, begun}
+use Rattle.vl_script_model.specs.Trial.{EndsTrial, TriesInTime, begun}
 use Rattle.vl_script_model.specs.Trying.{trial_of}
 use Rattle.vl_script.specs.declared.words.Command.TheVariants.{Bench, Drive, Ids, Replay, Trial}
 use Rattle.vl_script.specs.Script.{lines_of}
-use Rattle.vl_script_model.specs.Endings.{CountsFaultsOf, TheDisk, TheSource, TheSink, status_of, usage_line}
+use Rattle.vl_recover.specs.declared.fails.OpenError.TheVariants as unopened
+use Rattle.vl_script_model.specs.Endings.{CountsFaultsOf, TheDisk, TheSource, TheSink, no_memory_line, status_of, usage_line}
 use Rattle.vl_disk.specs.Faults.{Rose}
 use Rattle.vl_disk.specs.declared.name.Name.{Name}
 use Rattle.vl_script_model.specs.Failing.{ByReader}
@@ -165,8 +166,16 @@ pub returns-in-Some-Replay-clause-input : goal.returns-in-Some-Replay-clause-inp
 returns-in-Some-Replay-clause-input g c plain input
     told = (c.replay-ending.result.ending, c.status-status-in-Some-Replay.ensures, c.replay-ending.ensures.input input told)
 
+pub returns-in-Some-Replay-clause-called : goal.returns-in-Some-Replay-clause-called
+returns-in-Some-Replay-clause-called g c plain =
+    (c.replay-ending.result.ending, c.status-status-in-Some-Replay.ensures, c.replay-ending.ensures.called)
+
 pub returns-in-Some-Replay-clause-tries : goal.returns-in-Some-Replay-clause-tries
 returns-in-Some-Replay-clause-tries g c stop outcome input asked = absurd
+    (no_trial stop outcome c.in-Ok.ensures.command (c.in-Some-Replay.is ∙ ap Some (rw c.in-Some-Replay.is at c.in-Some-Replay.field-0-is)) asked)
+
+pub returns-in-Some-Replay-clause-tries_in_time : goal.returns-in-Some-Replay-clause-tries_in_time
+returns-in-Some-Replay-clause-tries_in_time g c stop outcome input asked = absurd
     (no_trial stop outcome c.in-Ok.ensures.command (c.in-Some-Replay.is ∙ ap Some (rw c.in-Some-Replay.is at c.in-Some-Replay.field-0-is)) asked)
 
 pub returns-in-Some-Replay-clause-untouched : goal.returns-in-Some-Replay-clause-untouched
@@ -183,7 +192,7 @@ returns-in-Some-Replay-clause-benches g c seed count asked = absurd
     (one_asked Replay (Bench seed count) c.in-Ok.ensures.command (c.in-Some-Replay.is ∙ ap Some (rw c.in-Some-Replay.is at c.in-Some-Replay.field-0-is)) asked))
 
 pub returns-in-Some-Replay-clause-again : goal.returns-in-Some-Replay-clause-again
-returns-in-Some-Replay-clause-again g c s input starts told = c.replay-ending.ensures.again s input starts told
+returns-in-Some-Replay-clause-again g c s starts = c.replay-ending.ensures.again s starts
 
 -- ---- words that aren't plain
 
@@ -241,13 +250,19 @@ returns-in-None-clause-no_stream_fault g c
     )
 
 pub returns-in-None-clause-again : goal.returns-in-None-clause-again
-returns-in-None-clause-again g c s input starts told may = may
+returns-in-None-clause-again g c s starts may = may
 
 pub returns-in-None-clause-input : goal.returns-in-None-clause-input
 returns-in-None-clause-input g c plain = absurd (none_asked Replay c.in-Ok.ensures.command c.in-None.is plain)
 
+pub returns-in-None-clause-called : goal.returns-in-None-clause-called
+returns-in-None-clause-called g c plain = absurd (none_asked Replay c.in-Ok.ensures.command c.in-None.is plain)
+
 pub returns-in-None-clause-tries : goal.returns-in-None-clause-tries
 returns-in-None-clause-tries g c stop outcome input asked = absurd (none_asked (Trial stop outcome) c.in-Ok.ensures.command c.in-None.is asked)
+
+pub returns-in-None-clause-tries_in_time : goal.returns-in-None-clause-tries_in_time
+returns-in-None-clause-tries_in_time g c stop outcome input asked = absurd (none_asked (Trial stop outcome) c.in-Ok.ensures.command c.in-None.is asked)
 
 pub returns-in-None-clause-benches : goal.returns-in-None-clause-benches
 returns-in-None-clause-benches g c seed count asked = absurd (none_asked (Bench seed count) c.in-Ok.ensures.command c.in-None.is asked)
@@ -278,6 +293,15 @@ returns-in-Some-Trial-clause-tries g c stop outcome input asked told =
           (g.K.Sink.held c.trial.new.sink) (g.S.Source.left c.trial.new.source) c.trial.result) same.1
           (c.trial.ensures.ends input told)),
     )
+
+pub returns-in-Some-Trial-clause-tries_in_time : goal.returns-in-Some-Trial-clause-tries_in_time
+returns-in-Some-Trial-clause-tries_in_time g c stop outcome input asked told =
+    let same = same_trial stop c.in-Some-Trial.stop outcome c.in-Some-Trial.outcome c.in-Ok.ensures.command
+    (c.in-Some-Trial.is ∙ ap Some (rw c.in-Some-Trial.is at c.in-Some-Trial.field-0-is)) asked in
+    subst (λ (n : ℕ). TriesInTime (trial_of n input outcome) (g.K.Sink.held c.args.sink.now)
+    (g.K.Sink.held c.trial.new.sink) (g.S.Source.asked c.trial.new.source)) same.0
+    (subst (λ (o : Outcome). TriesInTime (trial_of c.in-Some-Trial.stop input o) (g.K.Sink.held c.args.sink.now)
+    (g.K.Sink.held c.trial.new.sink) (g.S.Source.asked c.trial.new.source)) same.1 (c.trial.ensures.in_time input told))
 
 pub returns-in-Some-Trial-clause-benches : goal.returns-in-Some-Trial-clause-benches
 returns-in-Some-Trial-clause-benches g c seed count asked = absurd
@@ -366,10 +390,15 @@ returns-in-Some-Trial-clause-no_stream_fault g c less =
     )
 
 pub returns-in-Some-Trial-clause-again : goal.returns-in-Some-Trial-clause-again
-returns-in-Some-Trial-clause-again g c s input starts told may = may
+returns-in-Some-Trial-clause-again g c s starts may = may
 
 pub returns-in-Some-Trial-clause-input : goal.returns-in-Some-Trial-clause-input
 returns-in-Some-Trial-clause-input g c asked = absurd
+    (other_asked c.in-Some-Trial.stop c.in-Some-Trial.outcome c.in-Ok.ensures.command
+    (c.in-Some-Trial.is ∙ ap Some (rw c.in-Some-Trial.is at c.in-Some-Trial.field-0-is)) asked)
+
+pub returns-in-Some-Trial-clause-called : goal.returns-in-Some-Trial-clause-called
+returns-in-Some-Trial-clause-called g c asked = absurd
     (other_asked c.in-Some-Trial.stop c.in-Some-Trial.outcome c.in-Ok.ensures.command
     (c.in-Some-Trial.is ∙ ap Some (rw c.in-Some-Trial.is at c.in-Some-Trial.field-0-is)) asked)
 
@@ -411,6 +440,12 @@ returns-in-Some-Bench-clause-answers g c asked = absurd
 
 pub returns-in-Some-Bench-clause-tries : goal.returns-in-Some-Bench-clause-tries
 returns-in-Some-Bench-clause-tries g c stop outcome input asked = absurd
+    (no_trial_asked c.in-Some-Bench.seed c.in-Some-Bench.count stop outcome
+    (one_asked (Bench c.in-Some-Bench.seed c.in-Some-Bench.count) (Trial stop outcome) c.in-Ok.ensures.command
+    (c.in-Some-Bench.is ∙ ap Some (rw c.in-Some-Bench.is at c.in-Some-Bench.field-0-is)) asked))
+
+pub returns-in-Some-Bench-clause-tries_in_time : goal.returns-in-Some-Bench-clause-tries_in_time
+returns-in-Some-Bench-clause-tries_in_time g c stop outcome input asked = absurd
     (no_trial_asked c.in-Some-Bench.seed c.in-Some-Bench.count stop outcome
     (one_asked (Bench c.in-Some-Bench.seed c.in-Some-Bench.count) (Trial stop outcome) c.in-Ok.ensures.command
     (c.in-Some-Bench.is ∙ ap Some (rw c.in-Some-Bench.is at c.in-Some-Bench.field-0-is)) asked))
@@ -486,10 +521,16 @@ returns-in-Some-Bench-clause-no_stream_fault g c less =
     )
 
 pub returns-in-Some-Bench-clause-again : goal.returns-in-Some-Bench-clause-again
-returns-in-Some-Bench-clause-again g c s input starts told may = may
+returns-in-Some-Bench-clause-again g c s starts may = may
 
 pub returns-in-Some-Bench-clause-input : goal.returns-in-Some-Bench-clause-input
 returns-in-Some-Bench-clause-input g c asked = absurd
+    (no_replay c.in-Some-Bench.seed c.in-Some-Bench.count
+    (one_asked (Bench c.in-Some-Bench.seed c.in-Some-Bench.count) Replay c.in-Ok.ensures.command
+    (c.in-Some-Bench.is ∙ ap Some (rw c.in-Some-Bench.is at c.in-Some-Bench.field-0-is)) asked))
+
+pub returns-in-Some-Bench-clause-called : goal.returns-in-Some-Bench-clause-called
+returns-in-Some-Bench-clause-called g c asked = absurd
     (no_replay c.in-Some-Bench.seed c.in-Some-Bench.count
     (one_asked (Bench c.in-Some-Bench.seed c.in-Some-Bench.count) Replay c.in-Ok.ensures.command
     (c.in-Some-Bench.is ∙ ap Some (rw c.in-Some-Bench.is at c.in-Some-Bench.field-0-is)) asked))
@@ -538,6 +579,12 @@ returns-in-Some-Drive-clause-answers g c asked = absurd
 
 pub returns-in-Some-Drive-clause-tries : goal.returns-in-Some-Drive-clause-tries
 returns-in-Some-Drive-clause-tries g c stop outcome input asked = absurd
+    (no_trial_driven c.in-Some-Drive.clients c.in-Some-Drive.txns c.in-Some-Drive.seed stop outcome
+    (one_asked (Drive c.in-Some-Drive.clients c.in-Some-Drive.txns c.in-Some-Drive.seed) (Trial stop outcome) c.in-Ok.ensures.command
+    (c.in-Some-Drive.is ∙ ap Some (rw c.in-Some-Drive.is at c.in-Some-Drive.field-0-is)) asked))
+
+pub returns-in-Some-Drive-clause-tries_in_time : goal.returns-in-Some-Drive-clause-tries_in_time
+returns-in-Some-Drive-clause-tries_in_time g c stop outcome input asked = absurd
     (no_trial_driven c.in-Some-Drive.clients c.in-Some-Drive.txns c.in-Some-Drive.seed stop outcome
     (one_asked (Drive c.in-Some-Drive.clients c.in-Some-Drive.txns c.in-Some-Drive.seed) (Trial stop outcome) c.in-Ok.ensures.command
     (c.in-Some-Drive.is ∙ ap Some (rw c.in-Some-Drive.is at c.in-Some-Drive.field-0-is)) asked))
@@ -617,10 +664,16 @@ returns-in-Some-Drive-clause-no_stream_fault g c less =
     )
 
 pub returns-in-Some-Drive-clause-again : goal.returns-in-Some-Drive-clause-again
-returns-in-Some-Drive-clause-again g c s input starts told may = may
+returns-in-Some-Drive-clause-again g c s starts may = may
 
 pub returns-in-Some-Drive-clause-input : goal.returns-in-Some-Drive-clause-input
 returns-in-Some-Drive-clause-input g c asked = absurd
+    (no_replay_driven c.in-Some-Drive.clients c.in-Some-Drive.txns c.in-Some-Drive.seed
+    (one_asked (Drive c.in-Some-Drive.clients c.in-Some-Drive.txns c.in-Some-Drive.seed) Replay c.in-Ok.ensures.command
+    (c.in-Some-Drive.is ∙ ap Some (rw c.in-Some-Drive.is at c.in-Some-Drive.field-0-is)) asked))
+
+pub returns-in-Some-Drive-clause-called : goal.returns-in-Some-Drive-clause-called
+returns-in-Some-Drive-clause-called g c asked = absurd
     (no_replay_driven c.in-Some-Drive.clients c.in-Some-Drive.txns c.in-Some-Drive.seed
     (one_asked (Drive c.in-Some-Drive.clients c.in-Some-Drive.txns c.in-Some-Drive.seed) Replay c.in-Ok.ensures.command
     (c.in-Some-Drive.is ∙ ap Some (rw c.in-Some-Drive.is at c.in-Some-Drive.field-0-is)) asked))
@@ -679,6 +732,12 @@ returns-in-Some-Ids-clause-answers g c asked = absurd
 
 pub returns-in-Some-Ids-clause-tries : goal.returns-in-Some-Ids-clause-tries
 returns-in-Some-Ids-clause-tries g c stop outcome input asked = absurd
+    (no_trial_counted c.in-Some-Ids.clients c.in-Some-Ids.count c.in-Some-Ids.lease stop outcome
+    (one_asked (Ids c.in-Some-Ids.clients c.in-Some-Ids.count c.in-Some-Ids.lease) (Trial stop outcome) c.in-Ok.ensures.command
+    (c.in-Some-Ids.is ∙ ap Some (rw c.in-Some-Ids.is at c.in-Some-Ids.field-0-is)) asked))
+
+pub returns-in-Some-Ids-clause-tries_in_time : goal.returns-in-Some-Ids-clause-tries_in_time
+returns-in-Some-Ids-clause-tries_in_time g c stop outcome input asked = absurd
     (no_trial_counted c.in-Some-Ids.clients c.in-Some-Ids.count c.in-Some-Ids.lease stop outcome
     (one_asked (Ids c.in-Some-Ids.clients c.in-Some-Ids.count c.in-Some-Ids.lease) (Trial stop outcome) c.in-Ok.ensures.command
     (c.in-Some-Ids.is ∙ ap Some (rw c.in-Some-Ids.is at c.in-Some-Ids.field-0-is)) asked))
@@ -758,10 +817,16 @@ returns-in-Some-Ids-clause-no_stream_fault g c less =
     )
 
 pub returns-in-Some-Ids-clause-again : goal.returns-in-Some-Ids-clause-again
-returns-in-Some-Ids-clause-again g c s input starts told may = may
+returns-in-Some-Ids-clause-again g c s starts may = may
 
 pub returns-in-Some-Ids-clause-input : goal.returns-in-Some-Ids-clause-input
 returns-in-Some-Ids-clause-input g c asked = absurd
+    (no_replay_counted c.in-Some-Ids.clients c.in-Some-Ids.count c.in-Some-Ids.lease
+    (one_asked (Ids c.in-Some-Ids.clients c.in-Some-Ids.count c.in-Some-Ids.lease) Replay c.in-Ok.ensures.command
+    (c.in-Some-Ids.is ∙ ap Some (rw c.in-Some-Ids.is at c.in-Some-Ids.field-0-is)) asked))
+
+pub returns-in-Some-Ids-clause-called : goal.returns-in-Some-Ids-clause-called
+returns-in-Some-Ids-clause-called g c asked = absurd
     (no_replay_counted c.in-Some-Ids.clients c.in-Some-Ids.count c.in-Some-Ids.lease
     (one_asked (Ids c.in-Some-Ids.clients c.in-Some-Ids.count c.in-Some-Ids.lease) Replay c.in-Ok.ensures.command
     (c.in-Some-Ids.is ∙ ap Some (rw c.in-Some-Ids.is at c.in-Some-Ids.field-0-is)) asked))
@@ -787,6 +852,14 @@ returns-in_default-clause-tries g c stop outcome input asked told = (
       (g.S.Source.left c.args.source.now),
 )
 
+pub returns-in_default-clause-tries_in_time : goal.returns-in_default-clause-tries_in_time
+returns-in_default-clause-tries_in_time g c stop outcome input asked told = inl (
+  0,
+  c.finish.ensures.printed,
+  (omega arith, c.finish.ensures.taken),
+  keeps_up_at_first input (g.S.Source.asked c.args.source.now) (g.met.S.Source.since_asked c.args.source.now input told),
+)
+
 pub returns-in_default-clause-explained : goal.returns-in_default-clause-explained
 returns-in_default-clause-explained g c s input starts = all_explained c.reads_without_conflict_stay_explained.ensures
     g.D.Watched c.args.disk s (lines_of input) starts
@@ -802,4 +875,11 @@ returns-in_default-clause-input g c plain input told = (
   reads_nothing g.K.Sink c.args.sink.now c.finish.new.sink c.finish.result c.finish.ensures input (g.S.Source.left c.args.source.now)
       (g.S.Source.asked c.args.source.now)
       (keeps_up_at_first input (g.S.Source.asked c.args.source.now) (g.met.S.Source.since_asked c.args.source.now input told)),
+)
+
+pub returns-in_default-clause-called : goal.returns-in_default-clause-called
+returns-in_default-clause-called g c plain = (
+  c.finish.result,
+  c.status-status.ensures,
+  inr (unopened.NoMemory, λ state read told is_read. tt, (unopened.NoMemory, inl refl, (no_memory_line, refl, c.finish.ensures))),
 )

@@ -1,5 +1,5 @@
-use Rattle.std.proofs.Common.{◌≡◌, ◌≢◌, inl, ◌∙◌, ap, Err, ℕ, List, refl, subst, sym}
-use Rattle.std.specs.Prelude.{None, Some}
+use Rattle.std.proofs.Common.{◌≡◌, ◌≢◌, inl, inr, ◌∙◌, ap, Err, ℕ, List, refl, subst, sym}
+use Rattle.std.specs.Prelude.{Option, None, Some}
 use Rattle.std.specs.Prelude.{is_ok}
 use Rattle.vl_io.specs.Sink.{Takes, TakesPrefix}
 use Rattle.vl_disk.specs.Faults.{Rose}
@@ -8,13 +8,16 @@ use Rattle.vl_script_model.specs.Endings.{OnlyByDisk, TheSink, TheSource, culpri
 use Rattle.vl_script_model.specs.Endings.{no_memory_line, TheDisk}
 use Rattle.vl_script_model.specs.Halts.{HaltsByDisk}
 use Rattle.vl_replay.specs.Served.{disk_of}
+use Rattle.vl_script_model.specs.Durable.{HoldsState}
+use Rattle.vl_script_model.specs.Exchanges.{Exchange, state_behind}
+use Rattle.vl_script_model.specs.Stored.{IsStored}
 use Rattle.vl_script_model.specs.declared.ending.Ending.{Ending}
 use Rattle.vl_script_model.specs.declared.ending.Ending.TheVariants.{AnswerCut, BadWords, NoMemory, ReaderFault, Refused}
 use Rattle.vl_script_model.specs.laws.Ends.{answer_cut, finished, finish_counts, before_weaker, at_damage, at_fault}
 use Rattle.vl_script_model.specs.laws.Ends.{damage_counts, damage_counts_sink, ends_as, fault_as, fault_counts, fault_line}
 use Rattle.vl_script_model.specs.laws.Ends.{fault_stops, or_cut, otherwise_as, otherwise_counts, unread_stops}
-use Rattle.vl_script_model.specs.laws.Texts.{by_damage, by_read, halts, is_damage, is_unread, of_ok, ends_cut, ends_bad}
-use Rattle.vl_script_model.specs.laws.Texts.{ends_out, ends_fault, ends_unread}
+use Rattle.vl_script_model.specs.laws.Texts.{by_damage, by_halt, by_read, halts, is_damage, is_unread, of_ok, ends_cut, ends_bad}
+use Rattle.vl_script_model.specs.laws.Texts.{ends_out, ends_fault, ends_unread, was_halted}
 use Rattle.vl_replay.proofs.Runs.ReadingOn.{IsOtherwise, ends_for, ends_otherwise, finishes_damaged, finishes_otherwise, finishes_unread}
 use Rattle.vl_replay.proofs.answer.answer.Goals as goal
 
@@ -338,3 +341,148 @@ pub returns-in-Err-Read-clause-not_the_words : goal.returns-in-Err-Read-clause-n
 returns-in-Err-Read-clause-not_the_words g c =
     or_cut g.K.Sink _ _ _ ReaderFault c.finish-in-Err-Read.result (λ (e : Ending). Some e ≢ Some BadWords)
     c.finish-in-Err-Read.ensures (λ e. cc) (λ e. cc)
+
+-- ---- an engine that was halted before
+
+pub returns-in-Err-Halted-clause-printed : goal.returns-in-Err-Halted-clause-printed
+returns-in-Err-Halted-clause-printed g c script stands count next left =
+    finished g.K.Sink c.args.sink.now c.finish-in-Err-Halted.new.sink _ script left ReaderFault
+    c.finish-in-Err-Halted.result disk_fault_line refl
+    (unread_stops (OnlyByDisk
+    (Rose (g.D.Watched.faults (disk_of c.args.replayer.now))
+    (g.D.Watched.faults (disk_of c.execute_line.new.replayer)))) script c.args.text.now left next
+    (c.execute_line.ensures.readable script.start stands
+    (by_halt c.execute_line.result _ (c.in-Err-Halted.is ∙ ap Err c.in-Err-Halted.field-0-is))))
+    c.finish-in-Err-Halted.ensures
+
+pub returns-in-Err-Halted-clause-moves : goal.returns-in-Err-Halted-clause-moves
+returns-in-Err-Halted-clause-moves g c s stands held =
+    ends_unread g.D.Watched (record { only_now = g.met.D.Disk.only_now; counts_now = g.met.D.Disk.counts_now }) s
+    c.args.text.now (disk_of c.args.replayer.now) (disk_of c.execute_line.new.replayer) g.K.Sink c.args.sink.now
+    c.finish-in-Err-Halted.new.sink disk_fault_line c.execute_line.result c.finish-in-Err-Halted.result
+    (by_halt c.execute_line.result _ (c.in-Err-Halted.is ∙ ap Err c.in-Err-Halted.field-0-is)) c.finish-in-Err-Halted.ensures
+    (c.execute_line.ensures.carries s stands held)
+
+pub returns-in-Err-Halted-clause-sink_faults : goal.returns-in-Err-Halted-clause-sink_faults
+returns-in-Err-Halted-clause-sink_faults g c = finish_counts g.K.Sink _ _ _ ReaderFault c.finish-in-Err-Halted.result
+    (λ e. cc) c.finish-in-Err-Halted.ensures
+
+pub returns-in-Err-Halted-clause-disk_faults : goal.returns-in-Err-Halted-clause-disk_faults
+returns-in-Err-Halted-clause-disk_faults g c =
+    otherwise_counts g.K.Sink _ _ _ ReaderFault c.finish-in-Err-Halted.result (λ e. cc) c.finish-in-Err-Halted.ensures _ _
+    (c.execute_line.ensures.cause.steady
+    (subst (λ r. HaltsByDisk r → ⊥) (sym (c.in-Err-Halted.is ∙ ap Err c.in-Err-Halted.field-0-is)) (λ by. by)))
+
+pub returns-in-Err-Halted-clause-reads : goal.returns-in-Err-Halted-clause-reads
+returns-in-Err-Halted-clause-reads g c =
+    finishes_unread g.K.Sink _ _ c.finish-in-Err-Halted.result _ _ c.args.answered
+    (c.execute_line.ensures.met (by_halt c.execute_line.result _ (c.in-Err-Halted.is ∙ ap Err c.in-Err-Halted.field-0-is)))
+    c.finish-in-Err-Halted.ensures
+
+pub returns-in-Err-Halted-clause-as_meant : goal.returns-in-Err-Halted-clause-as_meant
+returns-in-Err-Halted-clause-as_meant g c = otherwise_as g.K.Sink _ _ _ ReaderFault c.finish-in-Err-Halted.result
+    c.args.on_fault (λ e. cc) c.finish-in-Err-Halted.ensures
+
+pub returns-in-Err-Halted-clause-reader_fault : goal.returns-in-Err-Halted-clause-reader_fault
+returns-in-Err-Halted-clause-reader_fault g c s stands by =
+    c.execute_line.ensures.fault s stands (was_halted c.execute_line.result _ (c.in-Err-Halted.is ∙ ap Err c.in-Err-Halted.field-0-is))
+
+pub returns-in-Err-Halted-clause-stands : goal.returns-in-Err-Halted-clause-stands
+returns-in-Err-Halted-clause-stands g c s stands on = absurd (some_none _ on)
+
+pub returns-in-Err-Halted-clause-not_the_source : goal.returns-in-Err-Halted-clause-not_the_source
+returns-in-Err-Halted-clause-not_the_source g c =
+    or_cut g.K.Sink _ _ _ ReaderFault c.finish-in-Err-Halted.result (λ (e : Ending). Some (culprit_of e) ≢ Some TheSource)
+    c.finish-in-Err-Halted.ensures (λ e. cc) (λ e. cc)
+
+pub returns-in-Err-Halted-clause-not_the_files : goal.returns-in-Err-Halted-clause-not_the_files
+returns-in-Err-Halted-clause-not_the_files g c refusal =
+    or_cut g.K.Sink _ _ _ ReaderFault c.finish-in-Err-Halted.result (λ (e : Ending). Some e ≢ Some (Refused refusal))
+    c.finish-in-Err-Halted.ensures (λ e. cc) (λ e. cc)
+
+pub returns-in-Err-Halted-clause-not_the_words : goal.returns-in-Err-Halted-clause-not_the_words
+returns-in-Err-Halted-clause-not_the_words g c =
+    or_cut g.K.Sink _ _ _ ReaderFault c.finish-in-Err-Halted.result (λ (e : Ending). Some e ≢ Some BadWords)
+    c.finish-in-Err-Halted.ensures (λ e. cc) (λ e. cc)
+
+-- ---- how it ends, whatever the disk holds
+
+pub returns-in-Ok-clause-as_called : goal.returns-in-Ok-clause-as_called
+returns-in-Ok-clause-as_called g c =
+    let (line, answer, at, called, out_is) = rw c.in-Ok-Some.field-0-is at c.in-Ok-Some.ensures.as_called in (
+      line,
+      answer,
+      at,
+      called,
+      subst (λ (l : List ℕ). Takes (g.K.Sink.held c.args.sink.now) (g.K.Sink.held c.put.new.self) l)
+          ((rw c.in-Ok-Some.field-0-is at c.deref.ensures.value) ∙ out_is) c.in-Ok.ensures.taken,
+    )
+
+pub returns-in-Ok-Some-clause-as_called : goal.returns-in-Ok-Some-clause-as_called
+returns-in-Ok-Some-clause-as_called g c =
+    let (line, answer, at, called, out_is) = rw c.in-Ok-Some.field-0-is at c.in-Ok-Some.ensures.as_called in
+    inr (inl (
+      refl,
+      line,
+      answer,
+      at,
+      called,
+      subst (λ (l : List ℕ). TakesPrefix (g.K.Sink.held c.args.sink.now) (g.K.Sink.held c.put.new.self) l)
+          ((rw c.in-Ok-Some.field-0-is at c.deref.ensures.value) ∙ out_is) c.in-Err.ensures.part,
+    ))
+
+pub returns-in-Ok-None-clause-as_called : goal.returns-in-Ok-None-clause-as_called
+returns-in-Ok-None-clause-as_called g c = inl c.end_at_bad_line.ensures.apart
+
+pub returns-in-Err-NoMemory-clause-as_called : goal.returns-in-Err-NoMemory-clause-as_called
+returns-in-Err-NoMemory-clause-as_called g c =
+    inr (inr (_, (rw c.in-Err-NoMemory.field-0-is at c.in-Err-NoMemory.ensures.halted), (no_memory_line, refl, c.finish.ensures)))
+
+pub returns-in-Err-Damaged-clause-as_called : goal.returns-in-Err-Damaged-clause-as_called
+returns-in-Err-Damaged-clause-as_called g c =
+    inr (inr (_, (rw c.in-Err-Damaged.field-0-is at c.in-Err-Damaged.ensures.halted), c.end_at_damage.ensures))
+
+pub returns-in-Err-Read-clause-as_called : goal.returns-in-Err-Read-clause-as_called
+returns-in-Err-Read-clause-as_called g c =
+    inr (inr (_, (rw c.in-Err-Read.field-0-is at c.in-Err-Read.ensures.halted), (disk_fault_line, refl, c.finish-in-Err-Read.ensures)))
+
+pub returns-in-Err-Halted-clause-as_called : goal.returns-in-Err-Halted-clause-as_called
+returns-in-Err-Halted-clause-as_called g c =
+    inr (inr (_, (rw c.in-Err-Halted.field-0-is at c.in-Err-Halted.ensures.halted), (disk_fault_line, refl, c.finish-in-Err-Halted.ensures)))
+
+pub returns-clause-as_called : goal.returns-clause-as_called
+returns-clause-as_called g c =
+    inr (inr (_, (rw c.in-Err-Disk.field-0-is at c.in-Err-Disk.ensures.halted), c.end_at_fault.ensures))
+
+-- ---- the store may be opened on the disk again
+
+pub returns-in-Ok-clause-again : goal.returns-in-Ok-clause-again
+returns-in-Ok-clause-again g c s stands held =
+    let made = rw c.in-Ok-Some.field-0-is at (c.in-Ok-Some.ensures.answers s stands) in
+    let carried = c.execute_line.ensures.carries s stands held in (
+      made.0.after,
+      made.2,
+      subst (λ (at : Option Exchange). HoldsState g.D.Watched IsStored (state_behind s at) (disk_of c.execute_line.new.replayer)) made.1
+          (of_ok c.execute_line.result _ (ap is_ok c.in-Ok-Some.is) carried.answered),
+    )
+
+pub returns-in-Ok-Some-clause-again : goal.returns-in-Ok-Some-clause-again
+returns-in-Ok-Some-clause-again g c s stands held = (c.execute_line.ensures.carries s stands held).tells
+
+pub returns-in-Ok-None-clause-again : goal.returns-in-Ok-None-clause-again
+returns-in-Ok-None-clause-again g c s stands held = (c.execute_line.ensures.carries s stands held).tells
+
+pub returns-in-Err-NoMemory-clause-again : goal.returns-in-Err-NoMemory-clause-again
+returns-in-Err-NoMemory-clause-again g c s stands held = (c.execute_line.ensures.carries s stands held).tells
+
+pub returns-in-Err-Damaged-clause-again : goal.returns-in-Err-Damaged-clause-again
+returns-in-Err-Damaged-clause-again g c s stands held = (c.execute_line.ensures.carries s stands held).tells
+
+pub returns-in-Err-Read-clause-again : goal.returns-in-Err-Read-clause-again
+returns-in-Err-Read-clause-again g c s stands held = (c.execute_line.ensures.carries s stands held).tells
+
+pub returns-in-Err-Halted-clause-again : goal.returns-in-Err-Halted-clause-again
+returns-in-Err-Halted-clause-again g c s stands held = (c.execute_line.ensures.carries s stands held).tells
+
+pub returns-clause-again : goal.returns-clause-again
+returns-clause-again g c s stands held = (c.execute_line.ensures.carries s stands held).tells

@@ -1,6 +1,7 @@
 use Rattle.std.proofs.Common.{◌≡◌, ◌≢◌, ◌+◌, ◌++◌, arith, ◌∷◌, [], ◌∙◌, ℕ, List, refl, ap, subst}
 use Rattle.std.specs.Prelude.{codes}
 use Rattle.std.specs.Fmt.{decimal}
+use Rattle.vl_script_model.specs.Called.{IsApart}
 use Rattle.vl_script_model.specs.Endings.{Evidence, bad_line, no_memory_line}
 use Rattle.vl_script_model.specs.Steps.{Finishes}
 use Rattle.vl_script_model.specs.declared.ending.Ending.{Ending}
@@ -62,3 +63,9 @@ returns-in-Ok-clause-readable g c = or_cut g.K.Sink _ _ _ BadLine c.finish.resul
 pub returns-clause-readable : goal.returns-clause-readable
 returns-clause-readable g c = or_cut g.K.Sink _ _ _ NoMemory c.finish-in-Err.result (λ (e : Ending). e ≢ ReaderFault)
     c.finish-in-Err.ensures (λ e. cc) (λ e. cc)
+
+pub returns-in-Ok-clause-apart : goal.returns-in-Ok-clause-apart
+returns-in-Ok-clause-apart g c = or_cut g.K.Sink _ _ _ BadLine c.finish.result IsApart c.finish.ensures tt tt
+
+pub returns-clause-apart : goal.returns-clause-apart
+returns-clause-apart g c = or_cut g.K.Sink _ _ _ NoMemory c.finish-in-Err.result IsApart c.finish-in-Err.ensures tt tt

@@ -3,6 +3,7 @@ use Rattle.std.specs.Prelude.{Err, is_ok, is_err}
 use Rattle.std.specs.Option.{option_map}
 use Rattle.vl_script.specs.Script.{text_of}
 use Rattle.vl_script_model.specs.Exchanges.{exchanged}
+use Rattle.vl_replay.specs.AsCalled.{AnswersAsCalled}
 use Rattle.vl_replay.specs.Served.{disk_of}
 use Rattle.vl_script_model.specs.Sequential.{answer_to}
 use Rattle.vl_script_model.specs.declared.fails.Halt.TheVariants as why
@@ -13,6 +14,7 @@ use Rattle.vl_script_model.specs.laws.Extending.{is_printed_text}
 use Rattle.vl_script_model.specs.laws.Texts.{by_damage_still, by_reader_still, carries_nothing, carries_bad, carries_line}
 use Rattle.vl_script_model.specs.laws.Texts.{kept_without_number, of_ok, ok_not_err, ok_not_out, out_not_by_reader}
 use Rattle.vl_script_model.specs.laws.Texts.{out_undamaged, same_halt}
+use Rattle.vl_replay.proofs.AsCalled.Lines.{halted_line, halted_out}
 use Rattle.vl_replay.proofs.answer.execute_line.Goals as goal
 
 pub line-requires : goal.line-requires
@@ -193,3 +195,39 @@ returns-in_default-clause-met g c by = absurd by
 
 pub returns-clause-met : goal.returns-clause-met
 returns-clause-met g c by = absurd by
+
+-- ---- what it is answered, whatever the disk holds
+
+pub returns-in_default-clause-as_called : goal.returns-in_default-clause-as_called
+returns-in_default-clause-as_called g c = sym c.in_ok-line.ensures ∙ c.in_default.is
+
+pub returns-clause-as_called : goal.returns-clause-as_called
+returns-clause-as_called g c =
+    let answer = c.in_ok-answer.answer in (
+      c.in-Some.line,
+      answer,
+      sym c.in_ok-line.ensures ∙ c.in-Some.is,
+      c.in_ok-answer.ensures.as_called c.requires,
+      c.in_ok-print_answer.ensures.text ∙ ap (λ (l : List ℕ). l ++ text_of answer) c.in_ok-out.ensures.items,
+    )
+
+pub returns-in_err-line-clause-halted : goal.returns-in_err-line-clause-halted
+returns-in_err-line-clause-halted g c =
+    halted_out (AnswersAsCalled g.D.Watched g.D.Held.HeldFile.bytes g.D.Reader.Reader.faults g.D.Writer.Writer c.args.replayer.now c.args.replayer.now)
+    c.args.text.now c.from_residual.result c.from_residual.ensures.1
+
+pub returns-in_err-out-clause-halted : goal.returns-in_err-out-clause-halted
+returns-in_err-out-clause-halted g c =
+    halted_out (AnswersAsCalled g.D.Watched g.D.Held.HeldFile.bytes g.D.Reader.Reader.faults g.D.Writer.Writer c.args.replayer.now c.args.replayer.now)
+    c.args.text.now c.from_residual-in_err-out.result c.from_residual-in_err-out.ensures.1
+
+pub returns-in_err-answer-clause-halted : goal.returns-in_err-answer-clause-halted
+returns-in_err-answer-clause-halted g c =
+    halted_line (AnswersAsCalled g.D.Watched g.D.Held.HeldFile.bytes g.D.Reader.Reader.faults g.D.Writer.Writer c.args.replayer.now c.line.new.self)
+    c.args.text.now c.line.result c.from_residual-in_err-answer.result _ c.in_err-answer.was
+    c.from_residual-in_err-answer.ensures.1 c.in-Some.line (sym c.in_ok-line.ensures ∙ c.in-Some.is) (c.line.ensures.as_called c.requires)
+
+pub returns-in_err-print_answer-clause-halted : goal.returns-in_err-print_answer-clause-halted
+returns-in_err-print_answer-clause-halted g c =
+    halted_out (AnswersAsCalled g.D.Watched g.D.Held.HeldFile.bytes g.D.Reader.Reader.faults g.D.Writer.Writer c.args.replayer.now c.line.new.self)
+    c.args.text.now c.from_residual-in_err-print_answer.result c.from_residual-in_err-print_answer.ensures.1

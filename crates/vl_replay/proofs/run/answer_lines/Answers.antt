@@ -5,7 +5,10 @@ use Rattle.vl_script_model.specs.declared.ending.Ending.{Ending}
 use Rattle.vl_script_model.specs.declared.ending.OnFault.{OnFault}
 use Rattle.vl_script_model.specs.laws.Laws.{keeps_up_at_first}
 use Rattle.vl_script_model.specs.Reading.{HasRead, streams}
+use Rattle.vl_replay.specs.AsCalled.{AnswersAsCalled}
 use Rattle.vl_replay.specs.Served.{StandsFor, disk_of}
+use Rattle.vl_script_model.specs.Called.{HasCalled, IsApart, RunsAsCalled}
+use Rattle.vl_script_model.specs.laws.Calling.{calls_none, ends_unbegun}
 use Rattle.vl_script_model.specs.Runs.{script_of, outside}
 use Rattle.vl_script_model.specs.Steps.{kept}
 use Rattle.vl_script_model.specs.Stored.{IsStopped, IsStored}
@@ -16,6 +19,9 @@ use Rattle.vl_script_model.specs.laws.ShownDisk.{shown_stays, stored_exactly}
 use Rattle.vl_replay.proofs.Runs.ReadingOn.{finished_otherwise, read_nothing, reads_nothing}
 use Rattle.vl_script_model.specs.laws.Stepping.{step_apart}
 use Rattle.vl_script_model.specs.laws.UnderWay.{UnderWay, begun, further, over}
+use Rattle.vl_recover.specs.crash.Starts.{MayOpen}
+use Rattle.vl_replay.proofs.Runs.StaysOpen.{held_open}
+use Rattle.vl_script_model.specs.Durable.{Tells}
 use Rattle.vl_replay.proofs.run.answer_lines.Goals as goal
 
 pub returns-in_default-clause-runs : goal.returns-in_default-clause-runs
@@ -46,6 +52,12 @@ lines-init g c = record {
       subst (λ (b : List ℕ). HasRead input begin begin b 0) (sym c.in-Ok.ensures)
       (read_nothing input begin told (keeps_up_at_first input begin.asked (g.met.S.Source.since_asked c.args.source.now input told)));
   stands = λ s stands. (s, stands);
+  held = λ s stands held. (s, stands, held);
+  called = subst (λ (b : List ℕ). HasCalled (AnswersAsCalled g.D.Watched g.D.Held.HeldFile.bytes g.D.Reader.Reader.faults
+      g.D.Writer.Writer) g.K.Sink c.args.replayer c.args.replayer (g.S.Source.left c.args.source.now) (g.S.Source.left c.args.source.now) b
+      c.args.sink.now c.args.sink.now) (sym c.in-Ok.ensures)
+      (calls_none (AnswersAsCalled g.D.Watched g.D.Held.HeldFile.bytes g.D.Reader.Reader.faults g.D.Writer.Writer) g.K.Sink
+      c.args.on_fault c.args.replayer (g.S.Source.left c.args.source.now) c.args.sink.now);
   source_steady = refl;
   sink_steady = refl;
   disk_steady = refl;
@@ -70,6 +82,8 @@ lines-preserved g c = record {
   has_read = λ input told. c.in_default-step.ensures.reads input
       (streams g.S.Source g.K.Sink c.args.source.now c.args.sink.now) (c.lines.invariant.has_read input told);
   stands = λ s stands. let now = c.lines.invariant.stands s stands in c.in_default-step.ensures.stands now.0 now.1 refl;
+  held = λ s stands held. let (t, is, there) = c.lines.invariant.held s stands held in c.in_default-step.ensures.again t is there;
+  called = c.in_default-step.ensures.called c.args.replayer (g.S.Source.left c.args.source.now) c.args.sink.now c.lines.invariant.called;
   source_steady = c.in_default-step.ensures.source_faults.steady (λ e. cc) (λ e. cc) ∙ c.lines.invariant.source_steady;
   sink_steady = c.in_default-step.ensures.sink_faults.steady (λ e. cc) (λ e. cc) ∙ c.lines.invariant.sink_steady;
   disk_steady = c.in_default-step.ensures.disk_faults.steady (λ e. cc) (λ e. cc) ∙ c.lines.invariant.disk_steady;
@@ -159,3 +173,29 @@ returns-in_default-clause-still_told g c left told = (left, told)
 pub returns-in-Some-clause-still_told : goal.returns-in-Some-clause-still_told
 returns-in-Some-clause-still_told g c left told = let h = c.lines.invariant.has_read left told
     in c.in-Some.ensures.still_told h.rest h.left_is
+
+-- ---- a store may be opened on the disk again
+
+pub returns-in_default-clause-again : goal.returns-in_default-clause-again
+returns-in_default-clause-again g c s stands held =
+    subst (λ disk. Tells g.D.Watched disk MayOpen) (sym c.close.ensures) (held_open g.D.Watched s (disk_of c.args.replayer) held)
+
+pub returns-in-Some-clause-again : goal.returns-in-Some-clause-again
+returns-in-Some-clause-again g c s stands held =
+    let (t, is, there) = c.lines.invariant.held s stands held in
+    subst (λ disk. Tells g.D.Watched disk MayOpen) (sym c.close-in-Some.ensures) (c.in-Some.ensures.again t is there)
+
+-- ---- what its lines are answered, whatever the disk holds
+
+pub returns-in_default-clause-called : goal.returns-in_default-clause-called
+returns-in_default-clause-called g c =
+    ends_unbegun (AnswersAsCalled g.D.Watched g.D.Held.HeldFile.bytes g.D.Reader.Reader.faults g.D.Writer.Writer) g.K.Sink c.args.on_fault
+    c.args.replayer (g.S.Source.left c.args.source.now) c.args.sink.now c.finish.new.sink c.finish.result
+    (or_cut g.K.Sink _ _ _ NoMemory c.finish.result IsApart c.finish.ensures tt tt)
+
+pub returns-in-Some-clause-called : goal.returns-in-Some-clause-called
+returns-in-Some-clause-called g c =
+    subst (λ (f : OnFault). RunsAsCalled (AnswersAsCalled g.D.Watched g.D.Held.HeldFile.bytes g.D.Reader.Reader.faults g.D.Writer.Writer)
+    g.K.Sink f c.args.replayer (g.S.Source.left c.args.source.now) c.args.sink.now c.step.new.sink c.in-Some.ending)
+    c.lines.invariant.mode
+    (c.in-Some.ensures.called c.args.replayer (g.S.Source.left c.args.source.now) c.args.sink.now c.lines.invariant.called)

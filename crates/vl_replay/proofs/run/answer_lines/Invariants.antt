@@ -1,6 +1,9 @@
 use Rattle.std.proofs.Common.{◌≡◌, ◌+◌, ℕ, List, length, Some}
 use Rattle.vl_script_model.specs.Reading.{HasRead, streams}
+use Rattle.vl_replay.specs.AsCalled.{AnswersAsCalled}
+use Rattle.vl_script_model.specs.Called.{HasCalled}
 use Rattle.vl_replay.specs.Served.{TakesLines, StandsFor, disk_of}
+use Rattle.vl_script_model.specs.Durable.{HoldsState}
 use Rattle.vl_script_model.specs.Runs.{script_of, outside}
 use Rattle.vl_script_model.specs.Sequential.{State}
 use Rattle.vl_script_model.specs.Steps.{kept}
@@ -24,6 +27,12 @@ invariant-lines g l =
           (streams g.S.Source g.K.Sink l.source l.sink) l.progress.buffer l.progress.answered;
       stands : (s : State) → StandsFor g.D.Watched g.D.Writer.Writer g.D.Held.HeldFile.bytes l.fn.replayer s
           → (t : State) × StandsFor g.D.Watched g.D.Writer.Writer g.D.Held.HeldFile.bytes l.progress.replayer t;
+      held : (s : State) → StandsFor g.D.Watched g.D.Writer.Writer g.D.Held.HeldFile.bytes l.fn.replayer s
+          → HoldsState g.D.Watched IsStored s (disk_of l.fn.replayer)
+          → (t : State) × StandsFor g.D.Watched g.D.Writer.Writer g.D.Held.HeldFile.bytes l.progress.replayer t
+          × HoldsState g.D.Watched IsStored t (disk_of l.progress.replayer);
+      called : HasCalled (AnswersAsCalled g.D.Watched g.D.Held.HeldFile.bytes g.D.Reader.Reader.faults g.D.Writer.Writer) g.K.Sink
+          l.fn.replayer l.progress.replayer begin.left now.left l.progress.buffer l.fn.sink l.sink;
       source_steady : g.S.Source.faults l.source ≡ g.S.Source.faults l.fn.source;
       sink_steady : g.K.Sink.faults l.sink ≡ g.K.Sink.faults l.fn.sink;
       disk_steady : g.D.Watched.faults (disk_of l.progress.replayer) ≡ g.D.Watched.faults (disk_of l.fn.replayer);

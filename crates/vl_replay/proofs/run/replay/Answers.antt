@@ -165,14 +165,13 @@ returns-clause-refuses g c state read refusal told is_read is_refused =
     )
 
 pub returns-in-Ok-clause-again : goal.returns-in-Ok-clause-again
-returns-in-Ok-clause-again g c s input starts told may =
+returns-in-Ok-clause-again g c s starts may =
     let first : State = record s { openable = true } in
     let begins = again_openable g.D.Watched c.args.disk s starts may in
-    ((c.answer_lines.ensures.runs first input (c.in-Ok.ensures.store first begins) told).disk
-    (c.in-Ok.ensures.holds first begins refl)).again
+    c.answer_lines.ensures.again first (c.in-Ok.ensures.store first begins) (c.in-Ok.ensures.holds first begins refl)
 
 pub returns-clause-again : goal.returns-clause-again
-returns-clause-again g c s input starts told (state, is, may) =
+returns-clause-again g c s starts (state, is, may) =
     let now = c.in-Err.ensures.tells state is in
     (now.0, now.1, c.in-Err.ensures.again state now.0 is may now.1)
 
@@ -199,3 +198,11 @@ returns-in-Ok-clause-reported g c silent =
 pub returns-clause-reported : goal.returns-clause-reported
 returns-clause-reported g c = not_silent g.K.Sink _ _ c.end_unopened-ending.ensures.0 c.end_unopened-ending.result
     c.end_unopened-ending.ensures.2
+
+-- ---- what its lines are answered, whatever the disk holds
+
+pub returns-in-Ok-clause-called : goal.returns-in-Ok-clause-called
+returns-in-Ok-clause-called g c = inl (c.in-Ok.ensures.answer, (c.in-Ok.replayer, c.answer_lines.ensures.called))
+
+pub returns-clause-called : goal.returns-clause-called
+returns-clause-called g c = inr (c.in-Err.field-0.why, c.in-Err.ensures.answer, c.end_unopened-ending.ensures)

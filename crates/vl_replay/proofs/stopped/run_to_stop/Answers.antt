@@ -1,4 +1,4 @@
-use Rattle.std.proofs.Common.{◌≡◌, ◌≢◌, ◌≤◌, arith, true, false, sym, ◌∙◌}
+use Rattle.std.proofs.Common.{◌≡◌, ◌≢◌, ◌≤◌, [], arith, true, false, sym, ◌∙◌}
 use Rattle.vl_mem.specs.contracts.steady_writer.SteadyWriterWriter.TheImpl as writing
 use Rattle.vl_mem.specs.contracts.stopping_disk.StoppingDiskWatched.TheImpl as memory
 use Rattle.vl_script_model.specs.Failing.{Beside, ByReader, ByWriter, ReaderFailed, beside}
@@ -11,7 +11,10 @@ use Rattle.vl_script_model.specs.declared.ending.Ending.TheVariants.{ReaderFault
 use Rattle.vl_replay.proofs.Runs.OpenedRuns.{of_unopened}
 use Rattle.vl_replay.proofs.Trials.Reopening.{memory_line}
 use Rattle.vl_replay.proofs.Trials.TrialEnds.{comes_nowhere, of_ended, stopped_opening, stops_by_fault, stops_by_memory}
-use Rattle.vl_script_model.specs.laws.TrialRun.{comes}
+use Rattle.vl_replay.proofs.Trials.InTime.{none_in_time}
+use Rattle.vl_script_model.specs.laws.Ends.{takes_nothing}
+use Rattle.vl_script_model.specs.laws.Laws.{keeps_up_at_first}
+use Rattle.vl_script_model.specs.laws.TrialRun.{comes, puts_in_time}
 use Rattle.vl_replay.proofs.stopped.run_to_stop.Goals as goal
 
 not_both : true ≡ false → ⊥
@@ -64,3 +67,24 @@ returns-else-is_fault-clause-no_read_fault g c =
     of_ended g.K.Sink c.args.sink.now c.end_unopened-ending.new.sink c.in-Err.field-0.why c.end_unopened-ending.result
     (λ (e : Ending). e ≢ ReaderFault)
     c.end_unopened-ending.ensures (λ how. of_unopened (λ (e : Ending). e ≢ ReaderFault) (λ refusal e. cc) (λ e. cc) (λ e. cc) how) (λ e. cc)
+
+-- ---- when answers are put
+
+pub returns-in-Ok-clause-in_time : goal.returns-in-Ok-clause-in_time
+returns-in-Ok-clause-in_time g c input outcome told =
+    puts_in_time c.args.stop (omega (arith, c.ranges.stop.fits)) input (StandsFor memory.ghosts writing.ghosts all_told c.in-Ok.replayer)
+    (outside g.S.Source g.K.Sink c.args.source.now c.args.sink.now (disk_of c.in-Ok.replayer))
+    (outside g.S.Source g.K.Sink c.answer_lines.new.source c.answer_lines.new.sink c.answer_lines.result.disk)
+    c.in-Ok.ensures.opened c.answer_lines.result.ending (c.answer_lines.ensures.runs begun input c.in-Ok.ensures.opened.stands_for told)
+    outcome
+
+pub returns-then-is_fault-clause-in_time : goal.returns-then-is_fault-clause-in_time
+returns-then-is_fault-clause-in_time g c input outcome told =
+    none_in_time (trial_of c.args.stop input outcome) _ _ (g.S.Source.asked c.args.source.now) [] (takes_nothing _)
+    (keeps_up_at_first input (g.S.Source.asked c.args.source.now) (g.met.S.Source.since_asked c.args.source.now input told))
+
+pub returns-else-is_fault-clause-in_time : goal.returns-else-is_fault-clause-in_time
+returns-else-is_fault-clause-in_time g c input outcome told =
+    let (how, reason, (line, is, finishes)) = c.end_unopened-ending.ensures in
+    none_in_time (trial_of c.args.stop input outcome) _ _ (g.S.Source.asked c.args.source.now) finishes.printed finishes.taken
+    (keeps_up_at_first input (g.S.Source.asked c.args.source.now) (g.met.S.Source.since_asked c.args.source.now input told))

@@ -1,4 +1,10 @@
+use Rattle.std.proofs.Common.{◌∙◌, ap, subst}
 use Rattle.vl_script_model.specs.Sequential.{history_of}
+use Rattle.vl_version.specs.Bases.{Fits}
+use Rattle.vl_version.specs.declared.base.Base.{Base}
+use Rattle.vl_replay.proofs.AsCalled.Merging.{met_alike, met_filling, met_reading, met_unlent}
+use Rattle.std.specs.Prelude.{Err}
+use Rattle.vl_replay.specs.Rounds.{halt_by}
 use Rattle.vl_replay.specs.declared.tables.Round.{Round}
 use Rattle.vl_replay.proofs.CarryingJob.{filling_failed, fits_kept, fits_same, fits_taken, has_same, left_under_way, lent_under_way}
 use Rattle.vl_replay.proofs.CarryingJob.{one_lent, reading_failed, refused_under_way, sound_filling, sound_reading, still_lent}
@@ -211,3 +217,90 @@ returns-in-Ok-fill-clause-removes g c s j way removes =
     lent_leaves s.store.layout (history_of s) (Removes new.core new.removing) _ _ c.in-Ok.file
     (c.in-Ok.ensures.removes (history_of s) s.store.layout
     (record { stands = way.serves.stands; opens = way.serves.opens }) (λ running. (way.serves.fits.running running).numbers) removes)
+
+-- ---- damage, whatever the disk holds
+
+pub returns-in-Err-clause-as_called : goal.returns-in-Err-clause-as_called
+returns-in-Err-clause-as_called g c =
+    rw c.halt_at.ensures (met_reading g.D.Held.HeldFile.bytes g.D.Reader.Reader.faults g.D.Writer.Writer
+    (Fits g.D.Held.HeldFile.bytes c.args.job.now.base.version c.args.reader.now.looks) c.args.job.now c.args.job.now.after Round _ c.in-Err.fault
+    c.in-Err.ensures.cause
+    (reading_failed g.D.Reader.Reader.faults g.D.Writer.Writer c.args.reader.now c.ready.new.reader Round _ _ c.in-Err.fault
+    c.in-Err.ensures.cause))
+
+pub returns-in-Err-fresh-clause-as_called : goal.returns-in-Err-fresh-clause-as_called
+returns-in-Err-fresh-clause-as_called g c =
+    rw c.refused.ensures (met_unlent g.D.Held.HeldFile.bytes g.D.Reader.Reader.faults g.D.Writer.Writer _ c.args.job.now c.in-Err-fresh.fail)
+
+pub returns-in-Err-fill-clause-as_called : goal.returns-in-Err-fill-clause-as_called
+returns-in-Err-fill-clause-as_called g c =
+    let bytes = g.D.Held.HeldFile.bytes in
+    rw c.halt_at-in-Err-fill.ensures (met_alike bytes g.D.Reader.Reader.faults g.D.Writer.Writer {T = Round}
+    (Fits bytes c.fresh.new.job.base.version c.ready.new.reader.looks)
+    (Fits bytes c.args.job.now.base.version c.args.reader.now.looks) c.args.job.now c.fresh.new.job
+    (ap (λ j. j.base) c.fresh.ensures.job.same ∙ ap (λ j. j.base) c.ready.ensures.kept)
+    (ap (λ j. j.inputs) c.fresh.ensures.job.same ∙ ap (λ j. j.inputs) c.ready.ensures.kept)
+    (λ fits. fits_same bytes c.ready.new.self c.fresh.new.job c.ready.new.reader.looks c.fresh.ensures.job
+    (fits_kept bytes c.args.job.now c.ready.new.self c.ready.new.reader.looks c.ready.ensures.kept (c.ready.ensures.fits fits)))
+    (Err (halt_by c.in-Err-fill.fault)) (met_filling bytes g.D.Reader.Reader.faults g.D.Writer.Writer _ c.fresh.new.job c.fresh.new.job.after Round _ c.in-Ok.file c.fresh.new.job
+    c.fill.new.self
+    c.in-Err-fill.fault c.in-Err-fill.ensures.cause
+    (filling_failed g.D.Reader.Reader.faults g.D.Writer.Writer c.ready.new.reader c.fill.new.reader Round _ _ c.in-Ok.file c.fresh.new.job
+    c.fill.new.self c.in-Err-fill.fault c.in-Err-fill.ensures.cause)))
+
+-- ---- what is merged stays the same
+
+pub returns-in-Ok-false-clause-base : goal.returns-in-Ok-false-clause-base
+returns-in-Ok-false-clause-base g c = ap (λ j. j.base) c.ready.ensures.kept
+
+pub returns-in-Ok-false-clause-inputs : goal.returns-in-Ok-false-clause-inputs
+returns-in-Ok-false-clause-inputs g c = ap (λ j. j.inputs) c.ready.ensures.kept
+
+pub returns-in-Ok-false-clause-fits : goal.returns-in-Ok-false-clause-fits
+returns-in-Ok-false-clause-fits g c = c.ready.ensures.fits
+
+pub returns-in-Err-clause-base : goal.returns-in-Err-clause-base
+returns-in-Err-clause-base g c = ap (λ j. j.base) c.ready.ensures.kept
+
+pub returns-in-Err-clause-inputs : goal.returns-in-Err-clause-inputs
+returns-in-Err-clause-inputs g c = ap (λ j. j.inputs) c.ready.ensures.kept
+
+pub returns-in-Err-clause-fits : goal.returns-in-Err-clause-fits
+returns-in-Err-clause-fits g c = c.ready.ensures.fits
+
+pub returns-in-Err-fresh-clause-base : goal.returns-in-Err-fresh-clause-base
+returns-in-Err-fresh-clause-base g c = ap (λ j. j.base) c.fresh.ensures.job.same ∙ ap (λ j. j.base) c.ready.ensures.kept
+
+pub returns-in-Err-fresh-clause-inputs : goal.returns-in-Err-fresh-clause-inputs
+returns-in-Err-fresh-clause-inputs g c = ap (λ j. j.inputs) c.fresh.ensures.job.same ∙ ap (λ j. j.inputs) c.ready.ensures.kept
+
+pub returns-in-Err-fresh-clause-fits : goal.returns-in-Err-fresh-clause-fits
+returns-in-Err-fresh-clause-fits g c = c.ready.ensures.fits
+
+pub returns-in-Ok-fill-clause-base : goal.returns-in-Ok-fill-clause-base
+returns-in-Ok-fill-clause-base g c = ap (λ j. j.base) c.in-Ok-fill.ensures.takes.kept ∙ ap (λ j. j.base) c.fresh.ensures.job.same ∙ ap (λ j. j.base) c.ready.ensures.kept
+
+pub returns-in-Ok-fill-clause-inputs : goal.returns-in-Ok-fill-clause-inputs
+returns-in-Ok-fill-clause-inputs g c = ap (λ j. j.inputs) c.in-Ok-fill.ensures.takes.kept ∙ ap (λ j. j.inputs) c.fresh.ensures.job.same ∙ ap (λ j. j.inputs) c.ready.ensures.kept
+
+pub returns-in-Ok-fill-clause-fits : goal.returns-in-Ok-fill-clause-fits
+returns-in-Ok-fill-clause-fits g c = λ fits.
+    let bytes = g.D.Held.HeldFile.bytes in
+    let base = ap (λ j. j.base) c.fresh.ensures.job.same ∙ ap (λ j. j.base) c.ready.ensures.kept in
+    subst (λ (b : Base _ _). Fits bytes b.version c.fill.new.reader.looks) base
+    (c.fill.ensures.fits (fits_same bytes c.ready.new.self c.fresh.new.job c.ready.new.reader.looks c.fresh.ensures.job
+    (fits_kept bytes c.args.job.now c.ready.new.self c.ready.new.reader.looks c.ready.ensures.kept (c.ready.ensures.fits fits))))
+
+pub returns-in-Err-fill-clause-base : goal.returns-in-Err-fill-clause-base
+returns-in-Err-fill-clause-base g c = ap (λ j. j.base) c.in-Err-fill.ensures.refused.kept ∙ ap (λ j. j.base) c.fresh.ensures.job.same ∙ ap (λ j. j.base) c.ready.ensures.kept
+
+pub returns-in-Err-fill-clause-inputs : goal.returns-in-Err-fill-clause-inputs
+returns-in-Err-fill-clause-inputs g c = ap (λ j. j.inputs) c.in-Err-fill.ensures.refused.kept ∙ ap (λ j. j.inputs) c.fresh.ensures.job.same ∙ ap (λ j. j.inputs) c.ready.ensures.kept
+
+pub returns-in-Err-fill-clause-fits : goal.returns-in-Err-fill-clause-fits
+returns-in-Err-fill-clause-fits g c = λ fits.
+    let bytes = g.D.Held.HeldFile.bytes in
+    let base = ap (λ j. j.base) c.fresh.ensures.job.same ∙ ap (λ j. j.base) c.ready.ensures.kept in
+    subst (λ (b : Base _ _). Fits bytes b.version c.fill.new.reader.looks) base
+    (c.fill.ensures.fits (fits_same bytes c.ready.new.self c.fresh.new.job c.ready.new.reader.looks c.fresh.ensures.job
+    (fits_kept bytes c.args.job.now c.ready.new.self c.ready.new.reader.looks c.ready.ensures.kept (c.ready.ensures.fits fits))))

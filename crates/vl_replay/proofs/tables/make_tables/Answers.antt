@@ -1,5 +1,10 @@
-use Rattle.std.specs.Prelude.{Ok}
-use Rattle.std.proofs.Common.{refl, ap, ◌∙◌}
+use Rattle.std.specs.Prelude.{Err, Ok, Option}
+use Rattle.vl_model.specs.declared.counter.Counter.{Counter}
+use Rattle.vl_replay.specs.declared.tables.Round.{Round}
+use Rattle.std.proofs.Common.{refl, ap, ◌∙◌, subst, sym}
+use Rattle.vl_version.specs.Bases.{Fits}
+use Rattle.vl_version.specs.declared.base.Base.{Base}
+use Rattle.vl_replay.proofs.AsCalled.Merging.{met_alike, met_halt}
 use Rattle.vl_engine_laws.specs.declared.kept.Core.{Core}
 use Rattle.vl_replay.proofs.CarryingJob.{just_planned, lent_under_way, may_hand_in}
 use Rattle.vl_replay.proofs.CarryingTables.{all_made, halted, not_begun, one_so_far, out_is, planned_so_far, used_up}
@@ -28,6 +33,9 @@ tables-init g c = record {
       c.requires.open c.requires.new;
   collecting = refl;
   logs = refl;
+  base = refl;
+  inputs = refl;
+  fits = λ fits. fits c.in_ok-reader.reader.looks (λ files. c.in_ok-reader.ensures.blocks files);
   steady = refl;
   running = λ running. running;
   so_far = λ s j planned.
@@ -49,6 +57,10 @@ tables-preserved g c =
       lent = lent;
       collecting = c.in-Ok-Made.ensures.collecting ∙ c.tables.invariant.collecting;
       logs = c.in-Ok-Made.ensures.logs ∙ c.tables.invariant.logs;
+      base = c.in-Ok-Made.ensures.base ∙ c.tables.invariant.base;
+      inputs = c.in-Ok-Made.ensures.inputs ∙ c.tables.invariant.inputs;
+      fits = λ fits. subst (λ (b : Base _ _). Fits g.D.Held.HeldFile.bytes b.version c.make_table.new.reader.looks)
+          (sym c.in-Ok-Made.ensures.base) (c.in-Ok-Made.ensures.fits (c.tables.invariant.fits fits));
       steady = c.in-Ok-Made.ensures.cause.steady (λ by. by) ∙ c.tables.invariant.steady;
       running = λ running. ap (λ (core : Core _). core.front.halted) (c.in-Ok-Made.ensures.drawn (ap Ok c.in-Ok-Made.field-0-is)).1
           ∙ c.tables.invariant.running running;
@@ -159,3 +171,16 @@ returns-in-Ok-Exhausted-clause-removes g c s j count planned is removes =
     (c.tables.invariant.removes s j planned removes) c.in-Ok-Exhausted.counter
     (rw c.in-Ok-Exhausted.field-0-is at (c.in-Ok-Exhausted.ensures.rounds _ j before.way))
     (rw c.in-Ok-Exhausted.field-0-is at (c.in-Ok-Exhausted.ensures.removes _ j before.way was)) count is
+
+-- ---- damage, whatever the disk holds
+
+pub returns-in_err-reader-clause-as_called : goal.returns-in_err-reader-clause-as_called
+returns-in_err-reader-clause-as_called g c = rw (out_is c.from_residual.result c.from_residual.ensures.1) tt
+
+pub returns-in-Err-clause-as_called : goal.returns-in-Err-clause-as_called
+returns-in-Err-clause-as_called g c =
+    met_alike g.D.Held.HeldFile.bytes g.D.Reader.Reader.faults g.D.Writer.Writer {T = Option Counter} _ _ c.args.job.now c.tables.job c.tables.invariant.base
+    c.tables.invariant.inputs
+    c.tables.invariant.fits (Err c.in-Err.halt) (met_halt g.D.Held.HeldFile.bytes g.D.Reader.Reader.faults g.D.Writer.Writer _ c.tables.job Round (Option Counter)
+    c.in-Err.halt
+    c.in-Err.ensures.as_called)

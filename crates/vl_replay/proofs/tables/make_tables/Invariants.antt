@@ -6,6 +6,8 @@ use Rattle.vl_script_model.specs.Sequential.{State}
 use Rattle.vl_space.specs.Removing.{Removes}
 use Rattle.vl_replay.proofs.CarryingRemoved.{LeavesDrawn}
 use Rattle.vl_replay.proofs.CarryingTables.{SoFar}
+use Rattle.vl_steps.specs.Merging.{FitsReaders}
+use Rattle.vl_version.specs.Bases.{Fits}
 use Rattle.vl_replay.proofs.tables.make_tables.Given as goal
 
 abbrev pub invariant-tables : goal.invariant-tables
@@ -13,6 +15,9 @@ invariant-tables g l = record {
   lent : HasLent g.D.Watched g.D.Writer.Writer l.engine.disk l.engine.merging l.job;
   collecting : l.engine.collecting ≡ l.fn.engine.collecting;
   logs : l.engine.core.version.behind.logs ≡ l.fn.engine.core.version.behind.logs;
+  base : l.job.base ≡ l.fn.job.base;
+  inputs : l.job.inputs ≡ l.fn.job.inputs;
+  fits : FitsReaders g.D.Held.HeldFile.bytes l.fn.job → Fits g.D.Held.HeldFile.bytes l.job.base.version l.reader.looks;
   steady : g.D.Watched.faults l.engine.disk ≡ g.D.Watched.faults l.fn.engine.disk;
   running : l.fn.engine.core.front.halted ≡ None → l.engine.core.front.halted ≡ None;
   so_far : (s : State) (j : Job)

@@ -308,7 +308,7 @@ module _ {D H R : Type 0} (g : Ghosts D) (bytes : H → Option (List ℕ)) (befo
 
     -- It was refused since the engine is halted, which never comes.
     pub halted_carries : (file : FileName) → ⊥
-        → CarriesOut {T = Answer} g IsStored Shown IsStopped old new s (state_by s (committing s name t b)) (Err (why.Read file))
+        → CarriesOut {T = Answer} g IsStored Shown IsStopped old new s (state_by s (committing s name t b)) (Err (why.Halted file))
     halted_carries file never held = absurd never
 
     -- ---- the disk failed

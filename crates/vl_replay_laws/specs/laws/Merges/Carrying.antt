@@ -296,16 +296,19 @@ module _ {D H R : Type 0} (g : Ghosts D) (watched : IsWatched g) (bytes : H → 
         not_memory halts.NoMemory e by = by
         not_memory (halts.Disk file) e by = absurd cc
         not_memory (halts.Read file) e by = by
+        not_memory (halts.Halted file) e by = by
         not_memory (halts.Damaged file place) e by = by
 
         not_both : (h' : Halt) → HaltsByRead {T = Answer} (Err h') → HaltsByDisk {T = Option Counter} (Err h') → ⊥
         not_both halts.NoMemory by failed = by
         not_both (halts.Disk file) by failed = by
         not_both (halts.Read file) by failed = failed
+        not_both (halts.Halted file) by failed = failed
         not_both (halts.Damaged file place) by failed = failed
 
         as_halt : (h' : Halt) → HaltsByDisk {T = Answer} (Err h') → HaltsByDisk {T = Option Counter} (Err h')
         as_halt halts.NoMemory by = by
         as_halt (halts.Disk file) by = by
         as_halt (halts.Read file) by = by
+        as_halt (halts.Halted file) by = by
         as_halt (halts.Damaged file place) by = by

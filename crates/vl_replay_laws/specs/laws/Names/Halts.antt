@@ -15,6 +15,7 @@ not_by_read (Ok answer) only by = by
 not_by_read (Err why.NoMemory) only by = by
 not_by_read (Err (why.Disk name)) only by = by
 not_by_read (Err (why.Read name)) only by = cc
+not_by_read (Err (why.Halted name)) only by = cc
 not_by_read (Err (why.Damaged name place)) only by = cc
 
 -- a reader's fault and damage are failed reads
@@ -23,6 +24,7 @@ reader_is_read (Ok answer) by = by
 reader_is_read (Err why.NoMemory) by = by
 reader_is_read (Err (why.Disk name)) by = by
 reader_is_read (Err (why.Read name)) by = by
+reader_is_read (Err (why.Halted name)) by = by
 reader_is_read (Err (why.Damaged name place)) by = absurd by
 
 pub damage_is_read : {T : Type 0} (result : Result T Halt) → HaltsByDamage result → HaltsByRead result
@@ -30,6 +32,7 @@ damage_is_read (Ok answer) by = by
 damage_is_read (Err why.NoMemory) by = by
 damage_is_read (Err (why.Disk name)) by = by
 damage_is_read (Err (why.Read name)) by = absurd by
+damage_is_read (Err (why.Halted name)) by = absurd by
 damage_is_read (Err (why.Damaged name place)) by = by
 
 pub not_by_reader : {T : Type 0} (result : Result T Halt) → OnlyNoMemory result → HaltsByReader result → ⊥

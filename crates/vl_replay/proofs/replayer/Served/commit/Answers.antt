@@ -21,6 +21,7 @@ use Rattle.vl_replay_laws.specs.laws.Names.Serving.{Serves, decides_all, represe
 use Rattle.vl_replay_laws.specs.laws.Names.Returning.{read_only_returns, returns_so, taken_as, taken_out, unknown_returns}
 use Rattle.vl_space.specs.Removing.{Removes}
 use Rattle.vl_replay_laws.specs.laws.Lines.Ruled.{committed_layout}
+use Rattle.vl_script_model.specs.laws.Halting.{err_reads_well}
 use Rattle.vl_replay.proofs.replayer.Served.commit.Goals as goal
 
 pub returns-in-None-clause-makes : goal.returns-in-None-clause-makes
@@ -562,3 +563,16 @@ returns-in-Err-Full-clause-removes g c s stands removes =
     (outcome_fail txn _ _ c.in-Err-Full.field-0-is)
     (c.in-Err-Full.ensures.removes (history_of s) s.store.layout t.reads stands.engine.fronts removes is.live is.sees.notes)).answered
     (rulings.Full c.in-Err-Full.field-0-1 c.in-Err-Full.field-0-2) refl).1
+
+-- ---- it reads nothing
+
+pub returns-in_err-put-in-Some-View-clause-reads_well : goal.returns-in_err-put-in-Some-View-clause-reads_well
+returns-in_err-put-in-Some-View-clause-reads_well g c = err_reads_well c.from_residual.result c.from_residual.ensures.1
+
+pub returns-in_err-put-in-Err-Exhausted-clause-reads_well : goal.returns-in_err-put-in-Err-Exhausted-clause-reads_well
+returns-in_err-put-in-Err-Exhausted-clause-reads_well g c =
+    err_reads_well c.from_residual-in_err-put-in-Err-Exhausted.result c.from_residual-in_err-put-in-Err-Exhausted.ensures.1
+
+pub returns-in_err-put-in-Err-Full-clause-reads_well : goal.returns-in_err-put-in-Err-Full-clause-reads_well
+returns-in_err-put-in-Err-Full-clause-reads_well g c =
+    err_reads_well c.from_residual-in_err-put-in-Err-Full.result c.from_residual-in_err-put-in-Err-Full.ensures.1

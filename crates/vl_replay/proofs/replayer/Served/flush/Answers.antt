@@ -21,6 +21,7 @@ use Rattle.vl_engine_laws.specs.laws.FlushRulings.{flush_made as flush_ruled, fl
 use Rattle.vl_script_model.specs.laws.Torn.{flush_torn}
 use Rattle.vl_replay_laws.specs.laws.Passes.Stepping.{step_leaves}
 use Rattle.vl_space.specs.Removing.{Removes}
+use Rattle.vl_replay.proofs.AsCalled.Lines.{step_reads_well}
 use Rattle.vl_replay.proofs.replayer.Served.flush.Goals as goal
 
 pub returns-clause-makes : goal.returns-clause-makes
@@ -143,3 +144,6 @@ returns-clause-removes g c s stands collects =
     (c.flush.ensures.removes fits.state h l fits.told_is stands.serves.engine stands.opens (λ running. (fits.numbers, fits.files))
     collects
     stands.removes))
+
+pub returns-clause-reads_well : goal.returns-clause-reads_well
+returns-clause-reads_well g c = step_reads_well c.flush.result c.step_answer.result c.step_answer.ensures

@@ -9,6 +9,7 @@ use Rattle.vl_replay_laws.specs.laws.Names.Making.{its, itself}
 use Rattle.vl_replay_laws.specs.laws.Names.Placing.{free_returns, in_place, out_of_place}
 use Rattle.vl_replay_laws.specs.laws.Names.PastMaking.{past_counted, past_not_by_disk, past_sound, past_undamaged, txn_past_makes, view_past_makes}
 use Rattle.vl_replay_laws.specs.laws.Names.Untabled.{reads_none}
+use Rattle.vl_replay.proofs.AsCalled.Naming.{none_read_back, txn_reads_back, view_reads_back}
 use Rattle.vl_replay.proofs.replayer.Served.get_at.Goals as goal
 
 pub returns-in_default-clause-makes : goal.returns-in_default-clause-makes
@@ -134,3 +135,42 @@ returns-in-View-clause-not_the_disk g c = past_not_by_disk c.get_at.result c.get
 pub returns-clause-not_the_disk : goal.returns-clause-not_the_disk
 returns-clause-not_the_disk g c =
     past_not_by_disk c.get_at-in-Transaction.result c.get_at_answer-in-Transaction.result c.get_at_answer-in-Transaction.ensures
+
+-- ---- what it is answered, whatever the disk holds
+
+pub returns-in_default-clause-as_called : goal.returns-in_default-clause-as_called
+returns-in_default-clause-as_called g c =
+    none_read_back g.D.Held.HeldFile.bytes _ c.args.self.now.opens.items c.deref.result.now c.deref.ensures.value c.as_slice.result.now
+    c.args.name c.as_slice.ensures (sym c.place.ensures ∙ c.in_default.is) _ c.args.key c.args.number
+
+pub returns-in-View-clause-as_called : goal.returns-in-View-clause-as_called
+returns-in-View-clause-as_called g c =
+    view_reads_back g.D.Held.HeldFile.bytes _ c.args.self.now.opens.items c.deref.result.now c.deref.ensures.value c.as_slice.result.now
+    c.args.name c.as_slice.ensures c.in-Some.at
+    (sym c.place.ensures ∙ c.in-Some.is) c.index_mut.result.now c.index_mut.ensures.value c.in-View.view c.get_at.new.self c.in-View.is c.get_at.ensures.keeps
+    c.as_slice-in-View.result.now c.args.key c.as_slice-in-View.ensures c.args.number c.get_at.result c.get_at_answer.result
+    c.get_at_answer.ensures
+    (record {
+      refused = c.get_at.ensures.refused;
+      cause = c.get_at.ensures.cause;
+      near = c.get_at.ensures.near;
+      names = c.get_at.ensures.fault;
+      looks = c.get_at.ensures.looks;
+    })
+
+pub returns-clause-as_called : goal.returns-clause-as_called
+returns-clause-as_called g c =
+    txn_reads_back g.D.Held.HeldFile.bytes _ c.args.self.now.opens.items c.deref.result.now c.deref.ensures.value c.as_slice.result.now
+    c.args.name c.as_slice.ensures c.in-Some.at
+    (sym c.place.ensures ∙ c.in-Some.is) c.index_mut.result.now c.index_mut.ensures.value c.in-Transaction.txn
+    c.get_at-in-Transaction.new.self c.in-Transaction.is c.get_at-in-Transaction.ensures.kept
+    c.as_slice-in-Transaction.result.now c.args.key
+    c.as_slice-in-Transaction.ensures c.args.number c.get_at-in-Transaction.result c.get_at_answer-in-Transaction.result
+    c.get_at_answer-in-Transaction.ensures
+    (record {
+      refused = c.get_at-in-Transaction.ensures.refused;
+      cause = c.get_at-in-Transaction.ensures.cause;
+      near = c.get_at-in-Transaction.ensures.near;
+      names = c.get_at-in-Transaction.ensures.fault;
+      looks = c.get_at-in-Transaction.ensures.looks;
+    })

@@ -18,6 +18,7 @@ use Rattle.vl_script_model.specs.laws.Torn.{keep_torn}
 use Rattle.vl_replay_laws.specs.laws.Names.KeepMaking.{keep_cause, keep_keeps, keep_leaves, keep_makes, keep_sound}
 use Rattle.vl_replay_laws.specs.laws.Names.Serving.{decides_all, represents}
 use Rattle.vl_space.specs.Removing.{Removes}
+use Rattle.vl_replay.proofs.AsCalled.Lines.{keep_reads_well}
 use Rattle.vl_replay.proofs.replayer.Served.keep.Goals as goal
 
 pub returns-clause-makes : goal.returns-clause-makes
@@ -118,3 +119,6 @@ returns-clause-removes g c s stands removes =
     subst (λ (x : Result Answer Halt). OnOk x (Removes new.core new.removing (keep_ruling l h v).layout)) (sym c.keep_answer.ensures)
     (keep_leaves (λ _ m. Removes new.core new.removing m) h l (keep_ruling l h v) _ _ c.keep.result
     (c.keep.ensures.removes h l stands.engine.fronts removes))
+
+pub returns-clause-reads_well : goal.returns-clause-reads_well
+returns-clause-reads_well g c = keep_reads_well c.keep.result c.keep_answer.result c.keep_answer.ensures

@@ -10,6 +10,7 @@ use Rattle.vl_replay_laws.specs.laws.Names.Making.{its, itself}
 use Rattle.vl_replay_laws.specs.laws.Names.Placing.{free_returns, in_place, out_of_place}
 use Rattle.vl_replay_laws.specs.laws.Names.ReadMaking.{call_counted, call_sound, call_undamaged, txn_read_makes, view_read_makes}
 use Rattle.vl_replay_laws.specs.laws.Names.Untabled.{reads_none}
+use Rattle.vl_replay.proofs.AsCalled.Naming.{none_read, txn_reads, view_reads}
 use Rattle.vl_replay.proofs.replayer.Served.read.Goals as goal
 
 pub returns-in_default-clause-makes : goal.returns-in_default-clause-makes
@@ -131,3 +132,41 @@ pub returns-clause-fault : goal.returns-clause-fault
 returns-clause-fault g c =
     call_counted (value_answer c.args.with_tag) c.get-in-Transaction.result c.read_answer-in-Transaction.result
     c.read_answer-in-Transaction.ensures g.D.Reader.Reader.faults _ _ c.get-in-Transaction.ensures.cause
+
+-- ---- what it is answered, whatever the disk holds
+
+pub returns-in_default-clause-as_called : goal.returns-in_default-clause-as_called
+returns-in_default-clause-as_called g c =
+    none_read g.D.Held.HeldFile.bytes _ c.args.self.now.opens.items c.deref.result.now c.deref.ensures.value c.as_slice.result.now
+    c.args.name c.as_slice.ensures (sym c.place.ensures ∙ c.in_default.is) _ c.args.with_tag c.args.key
+
+pub returns-in-View-clause-as_called : goal.returns-in-View-clause-as_called
+returns-in-View-clause-as_called g c =
+    view_reads g.D.Held.HeldFile.bytes _ c.args.self.now.opens.items c.deref.result.now c.deref.ensures.value c.as_slice.result.now
+    c.args.name c.as_slice.ensures c.in-Some.at
+    (sym c.place.ensures ∙ c.in-Some.is) c.index_mut.result.now c.index_mut.ensures.value c.in-View.view c.get.new.self c.in-View.is c.get.ensures.keeps
+    c.as_slice-in-View.result.now c.args.key c.as_slice-in-View.ensures c.args.with_tag c.get.result c.read_answer.result
+    c.read_answer.ensures
+    (record {
+      refused = c.get.ensures.refused;
+      cause = c.get.ensures.cause;
+      near = c.get.ensures.near;
+      own = λ change none. absurd cc;
+      looks = λ none files lies. c.get.ensures.looks files lies;
+    })
+
+pub returns-clause-as_called : goal.returns-clause-as_called
+returns-clause-as_called g c =
+    txn_reads g.D.Held.HeldFile.bytes _ c.args.self.now.opens.items c.deref.result.now c.deref.ensures.value c.as_slice.result.now
+    c.args.name c.as_slice.ensures c.in-Some.at
+    (sym c.place.ensures ∙ c.in-Some.is) c.index_mut.result.now c.index_mut.ensures.value c.in-Transaction.txn
+    c.get-in-Transaction.new.self c.in-Transaction.is c.get-in-Transaction.ensures.keeps
+    c.as_slice-in-Transaction.result.now c.args.key c.as_slice-in-Transaction.ensures
+    c.args.with_tag c.get-in-Transaction.result c.read_answer-in-Transaction.result c.read_answer-in-Transaction.ensures
+    (record {
+      refused = c.get-in-Transaction.ensures.refused;
+      cause = c.get-in-Transaction.ensures.cause;
+      near = c.get-in-Transaction.ensures.near;
+      own = c.get-in-Transaction.ensures.own;
+      looks = λ none files lies. c.get-in-Transaction.ensures.looks files lies none;
+    })

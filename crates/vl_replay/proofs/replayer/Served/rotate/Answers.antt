@@ -21,6 +21,7 @@ use Rattle.vl_engine_laws.specs.laws.RotateRulings.{made_ruled, rotate_made as r
 use Rattle.vl_script_model.specs.laws.Torn.{rotate_torn}
 use Rattle.vl_replay_laws.specs.laws.Passes.Stepping.{step_leaves}
 use Rattle.vl_space.specs.Removing.{Removes}
+use Rattle.vl_replay.proofs.AsCalled.Lines.{step_reads_well}
 use Rattle.vl_replay.proofs.replayer.Served.rotate.Goals as goal
 
 pub returns-clause-makes : goal.returns-clause-makes
@@ -145,3 +146,6 @@ returns-clause-removes g c s stands =
     subst (λ (x : Result Answer Halt). OnOk x (Removes new.core new.removing (rotate_ruling l h).layout)) (sym c.step_answer.ensures)
     (step_leaves (λ _ m. Removes new.core new.removing m) h l (rotate_ruling l h) _ _ c.rotate.result
     (c.rotate.ensures.removes h l stands.serves.engine stands.opens (λ running. fits.numbers) stands.removes))
+
+pub returns-clause-reads_well : goal.returns-clause-reads_well
+returns-clause-reads_well g c = step_reads_well c.rotate.result c.step_answer.result c.step_answer.ensures

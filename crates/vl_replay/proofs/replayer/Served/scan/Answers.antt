@@ -10,6 +10,7 @@ use Rattle.vl_replay_laws.specs.laws.Names.Placing.{free_returns, in_place, out_
 use Rattle.vl_replay_laws.specs.laws.Names.ReadMaking.{call_counted, call_sound, call_undamaged}
 use Rattle.vl_replay_laws.specs.laws.Names.ScanMaking.{txn_scan_makes, view_scan_makes}
 use Rattle.vl_replay_laws.specs.laws.Names.Untabled.{reads_none}
+use Rattle.vl_replay.proofs.AsCalled.Naming.{none_scanned, txn_scans, view_scans}
 use Rattle.vl_replay.proofs.replayer.Served.scan.Goals as goal
 use Rattle.vl_script.specs.declared.answer.Answer.TheVariants as answers
 
@@ -142,3 +143,40 @@ pub returns-clause-fault : goal.returns-clause-fault
 returns-clause-fault g c =
     call_counted (λ rows. answers.Rows rows) c.scan-in-Transaction.result c.scan_answer-in-Transaction.result
     c.scan_answer-in-Transaction.ensures g.D.Reader.Reader.faults _ _ c.scan-in-Transaction.ensures.cause
+
+-- ---- what it is answered, whatever the disk holds
+
+pub returns-in_default-clause-as_called : goal.returns-in_default-clause-as_called
+returns-in_default-clause-as_called g c =
+    none_scanned g.D.Held.HeldFile.bytes _ c.args.self.now.opens.items c.deref.result.now c.deref.ensures.value c.as_slice.result.now
+    c.args.name c.as_slice.ensures (sym c.place.ensures ∙ c.in_default.is) _ c.args.low c.args.high
+
+pub returns-in-View-clause-as_called : goal.returns-in-View-clause-as_called
+returns-in-View-clause-as_called g c =
+    view_scans g.D.Held.HeldFile.bytes _ c.args.self.now.opens.items c.deref.result.now c.deref.ensures.value c.as_slice.result.now
+    c.args.name c.as_slice.ensures c.in-Some.at
+    (sym c.place.ensures ∙ c.in-Some.is) c.index_mut.result.now c.index_mut.ensures.value c.in-View.view c.scan.new.self c.in-View.is c.scan.ensures.keeps
+    c.as_slice-in-View.result.now c.args.low c.as_slice-in-View.ensures c.as_slice-in-View-2.result.now c.args.high
+    c.as_slice-in-View-2.ensures c.scan.result c.scan_answer.result c.scan_answer.ensures
+    (record {
+      refused = c.scan.ensures.refused;
+      cause = c.scan.ensures.cause;
+      near = c.scan.ensures.near;
+      names = c.scan.ensures.fault;
+    })
+
+pub returns-clause-as_called : goal.returns-clause-as_called
+returns-clause-as_called g c =
+    txn_scans g.D.Held.HeldFile.bytes _ c.args.self.now.opens.items c.deref.result.now c.deref.ensures.value c.as_slice.result.now
+    c.args.name c.as_slice.ensures c.in-Some.at
+    (sym c.place.ensures ∙ c.in-Some.is) c.index_mut.result.now c.index_mut.ensures.value c.in-Transaction.txn
+    c.scan-in-Transaction.new.self c.in-Transaction.is c.scan-in-Transaction.ensures.keeps
+    c.as_slice-in-Transaction.result.now c.args.low c.as_slice-in-Transaction.ensures
+    c.as_slice-in-Transaction-2.result.now c.args.high c.as_slice-in-Transaction-2.ensures c.scan-in-Transaction.result
+    c.scan_answer-in-Transaction.result c.scan_answer-in-Transaction.ensures
+    (record {
+      refused = c.scan-in-Transaction.ensures.refused;
+      cause = c.scan-in-Transaction.ensures.cause;
+      near = c.scan-in-Transaction.ensures.near;
+      names = c.scan-in-Transaction.ensures.fault;
+    })

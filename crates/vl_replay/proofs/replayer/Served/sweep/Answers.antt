@@ -19,6 +19,7 @@ use Rattle.vl_replay_laws.specs.laws.Disk.Swept.{sweep_carries, sweep_named}
 use Rattle.vl_replay_laws.specs.laws.Names.Serving.{decides_all, represents}
 use Rattle.vl_replay_laws.specs.laws.Names.SweepMaking.{sweep_cause, sweep_leaves, sweep_makes, sweep_sound, sweep_sweeps}
 use Rattle.vl_replay_laws.specs.laws.Passes.Moving.{decides_weaker}
+use Rattle.vl_replay.proofs.AsCalled.Lines.{sweep_reads_well}
 use Rattle.vl_replay.proofs.replayer.Served.sweep.Goals as goal
 
 pub returns-clause-makes : goal.returns-clause-makes
@@ -117,3 +118,6 @@ returns-clause-carries g c s stands =
       there = old.there;
       leaves = λ represents failed then told. c.sweep.ensures.leaves h l then represents stands.removes on.within failed told;
     }) c.sweep_answer.result c.sweep_answer.ensures
+
+pub returns-clause-reads_well : goal.returns-clause-reads_well
+returns-clause-reads_well g c = sweep_reads_well c.sweep.result c.sweep_answer.result c.sweep_answer.ensures

@@ -1,6 +1,9 @@
 -- A batch is answered as the pass gives it, and waits then.
-use Rattle.std.proofs.Common.{◌∙◌, refl, ap, sym, subst}
-use Rattle.std.specs.Prelude.{Option, None, Some, Err}
+use Rattle.std.proofs.Common.{◌∙◌, inl, inr, refl, ap, sym, subst, ℕ, true, false, List}
+use Rattle.std.specs.Prelude.{Option, None, Some, Ok, Err}
+use Rattle.std.specs.Str.{bytes_eq}
+use Rattle.vl_engine_model.specs.Relocation.{Candidate}
+use Rattle.vl_engine_model.specs.Store.Lines.{Name}
 use Rattle.vl_engine_model.specs.Store.Dispatch.{batch_by}
 use Rattle.vl_engine_model.specs.Store.Lines as store_lines
 use Rattle.vl_engine_model.specs.Store.Things.{thing_of}
@@ -13,6 +16,8 @@ use Rattle.vl_replay_laws.specs.laws.Names.BeginMaking.{none_or_some}
 use Rattle.vl_replay_laws.specs.laws.Names.Making.{only_makes}
 use Rattle.vl_replay_laws.specs.laws.Passes.Batching.{batch_makes, batch_unknown, none_named, other_named, own_name, passes_then, there_is}
 use Rattle.vl_replay_laws.specs.laws.Passes.Undamaged.{undamaged}
+use Rattle.vl_replay.proofs.AsCalled.Going.{batch_answered, no_counts, out_of_memory, passing_weaker, some_of}
+use Rattle.vl_replay.specs.AsCalled.{AnswersBatch, batch_answer}
 use Rattle.vl_replay.proofs.replayer.collect.batch.Goals as goal
 
 pub returns-in_default-clause-makes : goal.returns-in_default-clause-makes
@@ -103,3 +108,75 @@ returns-clause-undamaged g c s stands halts =
     (before.is_open.looks c.in_ok-reader.reader.looks (λ files. c.in_ok-reader.ensures.blocks files)) _ _ c.in-Err.fault
     c.in-Err.ensures.cause
     (subst (λ (h : Halt). HaltsByDamage {T = Answer} (Err h)) c.halt_at.ensures halts)
+
+-- ---- what it is answered, whatever the disk holds
+
+pub returns-in_default-clause-as_called : goal.returns-in_default-clause-as_called
+returns-in_default-clause-as_called g c =
+    subst (λ (p : Option _). AnswersBatch g.D.Held.HeldFile.bytes p c.args.name (Ok (answers.Unknown c.args.name))) (sym c.in_default.is) refl
+
+pub returns-then-not-is_named-clause-as_called : goal.returns-then-not-is_named-clause-as_called
+returns-then-not-is_named-clause-as_called g c =
+    batch_answered g.D.Held.HeldFile.bytes c.args.passing.now c.in-Some.going c.in-Some.is c.args.name false
+    (ap (λ (n : Name). bytes_eq n c.in-Some.going.name) (sym c.as_slice.ensures) ∙ sym c.is_named.ensures ∙ c.if-not-is_named.true)
+    c.in-Some.going.batch refl _ refl
+
+pub returns-then-is_some-clause-as_called : goal.returns-then-is_some-clause-as_called
+returns-then-is_some-clause-as_called g c =
+    let (batch, waits) = some_of c.in-Some.going.batch (sym c.is_some.ensures ∙ c.if-is_some.true) in
+    batch_answered g.D.Held.HeldFile.bytes c.args.passing.now c.in-Some.going c.in-Some.is c.args.name true
+    (ap (λ (n : Name). bytes_eq n c.in-Some.going.name) (sym c.as_slice.ensures) ∙ sym c.is_named.ensures ∙ c.if-not-is_named.false)
+    (Some batch) waits _ refl
+
+pub returns-in_err-reader-clause-as_called : goal.returns-in_err-reader-clause-as_called
+returns-in_err-reader-clause-as_called g c =
+    batch_answered g.D.Held.HeldFile.bytes c.args.passing.now c.in-Some.going c.in-Some.is c.args.name true
+    (ap (λ (n : Name). bytes_eq n c.in-Some.going.name) (sym c.as_slice.ensures) ∙ sym c.is_named.ensures ∙ c.if-not-is_named.false)
+    None (none_or_some c.in-Some.going.batch (sym c.is_some.ensures ∙ c.if-is_some.false)) _
+    (inl (out_of_memory c.from_residual.result c.from_residual.ensures.0 c.from_residual.ensures.1))
+
+pub returns-in-Ok-Some-clause-as_called : goal.returns-in-Ok-Some-clause-as_called
+returns-in-Ok-Some-clause-as_called g c =
+    batch_answered g.D.Held.HeldFile.bytes c.args.passing.now c.in-Some.going c.in-Some.is c.args.name true
+    (ap (λ (n : Name). bytes_eq n c.in-Some.going.name) (sym c.as_slice.ensures) ∙ sym c.is_named.ensures ∙ c.if-not-is_named.false)
+    None (none_or_some c.in-Some.going.batch (sym c.is_some.ensures ∙ c.if-is_some.false)) _
+    (inr (
+      Ok c.in-Ok-Some.field-0,
+      c.next.new.self.at.place,
+      no_counts,
+      record { reaches = c.in-Ok-Some.ensures.reaches; over = c.in-Ok-Some.ensures.over; given = c.in-Ok-Some.ensures.read; cause = tt },
+      ap (λ (n : ℕ). Ok (answers.FoundRecords n)) c.len-count.ensures
+          ∙ sym (ap (λ (o : Option (List Candidate)). batch_answer (Ok o)) c.in-Ok-Some.field-0-is),
+    ))
+
+pub returns-in-Ok-None-clause-as_called : goal.returns-in-Ok-None-clause-as_called
+returns-in-Ok-None-clause-as_called g c =
+    batch_answered g.D.Held.HeldFile.bytes c.args.passing.now c.in-Some.going c.in-Some.is c.args.name true
+    (ap (λ (n : Name). bytes_eq n c.in-Some.going.name) (sym c.as_slice.ensures) ∙ sym c.is_named.ensures ∙ c.if-not-is_named.false)
+    None (none_or_some c.in-Some.going.batch (sym c.is_some.ensures ∙ c.if-is_some.false)) _
+    (inr (
+      Ok c.in-Ok-None.field-0,
+      c.next.new.self.at.place,
+      no_counts,
+      record { reaches = c.in-Ok-None.ensures.reaches; over = c.in-Ok-None.ensures.over; given = c.in-Ok-None.ensures.read; cause = tt },
+      sym (ap (λ (o : Option (List Candidate)). batch_answer (Ok o)) c.in-Ok-None.field-0-is),
+    ))
+
+pub returns-clause-as_called : goal.returns-clause-as_called
+returns-clause-as_called g c =
+    batch_answered g.D.Held.HeldFile.bytes c.args.passing.now c.in-Some.going c.in-Some.is c.args.name true
+    (ap (λ (n : Name). bytes_eq n c.in-Some.going.name) (sym c.as_slice.ensures) ∙ sym c.is_named.ensures ∙ c.if-not-is_named.false)
+    None (none_or_some c.in-Some.going.batch (sym c.is_some.ensures ∙ c.if-is_some.false)) _
+    (inr (
+      Err c.in-Err.fault,
+      c.in-Some.going.pass.at.place,
+      _,
+      record {
+        reaches = tt;
+        over = tt;
+        given = tt;
+        cause = passing_weaker _ _ _ (λ f may fits. may (fits c.in_ok-reader.reader.looks (λ files. c.in_ok-reader.ensures.blocks files)))
+            c.in-Some.going.pass.log.number _ _ c.in-Err.fault c.in-Err.ensures.cause;
+      },
+      ap Err c.halt_at.ensures,
+    ))

@@ -1,13 +1,15 @@
 -- A move is answered as the ruling on it has it, and carried out so.
-use Rattle.std.proofs.Common.{◌≤◌, ℕ, refl, ap, sym, ◌∙◌, subst}
-use Rattle.std.specs.Prelude.{Option, Some, Ok, Err}
+use Rattle.std.proofs.Common.{◌≤◌, ℕ, true, false, inl, inr, refl, ap, sym, ◌∙◌, subst}
+use Rattle.std.specs.Prelude.{Option, None, Some, Ok, Err}
+use Rattle.std.specs.Str.{bytes_eq}
+use Rattle.vl_engine_model.specs.Store.Lines.{Name}
 use Rattle.std.specs.List.{AllByRecursion}
 use Rattle.vl_back.specs.declared.back.Back.{Back}
 use Rattle.vl_engine_laws.specs.Pointed.{layout_logs}
 use Rattle.vl_engine_laws.specs.Represents as engine
 use Rattle.vl_engine_laws.specs.laws.StillLaws.{there_now}
 use Rattle.vl_engine_laws.specs.Lent.{StandsOpen}
-use Rattle.vl_steps.specs.Relocating.{IsDamaged, IsOfPass, MoveLeavesDisk, batch_back, move_outcome}
+use Rattle.vl_steps.specs.Relocating.{IsDamaged, IsOfPass, MoveLeavesDisk, at, batch_back, move_outcome}
 use Rattle.vl_steps.specs.declared.fails.MoveFail.{MoveFail}
 use Rattle.vl_engine_model.specs.Rulings.Relocate as move
 use Rattle.vl_engine_model.specs.Store.Dispatch.{move_by}
@@ -29,6 +31,9 @@ use Rattle.vl_replay_laws.specs.laws.Passes.Moving.{refused_passes, waits_there}
 use Rattle.vl_replay_laws.specs.laws.Passes.Standing.{out_carries}
 use Rattle.vl_space.specs.Removing.{Removes}
 use Rattle.vl_engine_model.specs.declared.layout.Layout.{Layout}
+use Rattle.vl_replay.proofs.AsCalled.Going.{move_answered, out_of_memory}
+use Rattle.vl_replay.specs.AsCalled.{AnswersMove}
+use Rattle.vl_replay_laws.specs.Passing.{move_answer}
 use Rattle.vl_replay.proofs.replayer.collect.move_batch.Goals as goal
 
 pub returns-in_default-clause-makes : goal.returns-in_default-clause-makes
@@ -842,3 +847,157 @@ returns-in-Err-Exhausted-clause-removes g c s stands removes =
     (sym (leaves g.D.Watched bytes core new.core disk new.disk os s stands.serves within name p batch there).0)
     ((c.in-Err-Exhausted.ensures.removes h l p of (record { stands = stands.serves.engine; opens = stands.opens }) removes).answered
     (move.Exhausted c.in-Err-Exhausted.counter) (ap (λ (f : MoveFail). move_outcome (Err f)) c.in-Err-Exhausted.field-0-is)).1
+
+-- ---- what it is answered, whatever the disk holds
+
+pub returns-in_default-clause-as_called : goal.returns-in_default-clause-as_called
+returns-in_default-clause-as_called g c =
+    subst (λ (p : Option _). AnswersMove g.D.Watched g.D.Held.HeldFile.bytes p g.D.Reader.Reader.faults
+    (at c.args.served.now.engine.disk c.args.served.now.engine.core c.args.served.now.engine.merging)
+    (at c.args.served.now.engine.disk c.args.served.now.engine.core c.args.served.now.engine.merging) c.args.name
+    (Ok (answers.Unknown c.args.name))) (sym c.in_default.is) refl
+
+pub returns-then-not-is_named-clause-as_called : goal.returns-then-not-is_named-clause-as_called
+returns-then-not-is_named-clause-as_called g c =
+    move_answered g.D.Held.HeldFile.bytes c.args.passing.now c.in-Some.going c.in-Some.is c.args.name false
+    (ap (λ (n : Name). bytes_eq n c.in-Some.going.name) (sym c.as_slice.ensures) ∙ sym c.is_named.ensures ∙ c.if-not-is_named.true)
+    c.in-Some.going.batch refl _ g.D.Watched g.D.Reader.Reader.faults
+    (at c.args.served.now.engine.disk c.args.served.now.engine.core c.args.served.now.engine.merging)
+    (at c.args.served.now.engine.disk c.args.served.now.engine.core c.args.served.now.engine.merging) refl
+
+pub returns-in_default-take-clause-as_called : goal.returns-in_default-take-clause-as_called
+returns-in_default-take-clause-as_called g c =
+    move_answered g.D.Held.HeldFile.bytes c.args.passing.now c.in-Some.going c.in-Some.is c.args.name true
+    (ap (λ (n : Name). bytes_eq n c.in-Some.going.name) (sym c.as_slice.ensures) ∙ sym c.is_named.ensures ∙ c.if-not-is_named.false)
+    None (sym c.in_default-take.ensures.value) _ g.D.Watched g.D.Reader.Reader.faults
+    (at c.args.served.now.engine.disk c.args.served.now.engine.core c.args.served.now.engine.merging)
+    (at c.args.served.now.engine.disk c.args.served.now.engine.core c.args.served.now.engine.merging) refl
+
+pub returns-in_err-reader-clause-as_called : goal.returns-in_err-reader-clause-as_called
+returns-in_err-reader-clause-as_called g c =
+    move_answered g.D.Held.HeldFile.bytes c.args.passing.now c.in-Some.going c.in-Some.is c.args.name true
+    (ap (λ (n : Name). bytes_eq n c.in-Some.going.name) (sym c.as_slice.ensures) ∙ sym c.is_named.ensures ∙ c.if-not-is_named.false)
+    (Some c.in-Some-take.batch) (sym c.in-Some-take.ensures.value) _ g.D.Watched g.D.Reader.Reader.faults
+    (at c.args.served.now.engine.disk c.args.served.now.engine.core c.args.served.now.engine.merging)
+    (at c.args.served.now.engine.disk c.args.served.now.engine.core c.args.served.now.engine.merging)
+    (inl (out_of_memory c.from_residual.result c.from_residual.ensures.0 c.from_residual.ensures.1))
+
+pub returns-in-Ok-clause-as_called : goal.returns-in-Ok-clause-as_called
+returns-in-Ok-clause-as_called g c =
+    move_answered g.D.Held.HeldFile.bytes c.args.passing.now c.in-Some.going c.in-Some.is c.args.name true
+    (ap (λ (n : Name). bytes_eq n c.in-Some.going.name) (sym c.as_slice.ensures) ∙ sym c.is_named.ensures ∙ c.if-not-is_named.false)
+    (Some c.in-Some-take.batch) (sym c.in-Some-take.ensures.value) _ g.D.Watched g.D.Reader.Reader.faults
+    (at c.args.served.now.engine.disk c.args.served.now.engine.core c.args.served.now.engine.merging)
+    (at c.relocate.new.self.disk c.relocate.new.self.core c.relocate.new.self.merging)
+    (inr (
+      Ok c.in-Ok.count,
+      c.in_ok-reader.reader.looks,
+      c.relocate.new.looks,
+      c.in-Ok.ensures.as_moved,
+      ap (λ (n : ℕ). Ok (answers.Moved n)) c.from.ensures,
+    ))
+
+pub returns-in-Err-Full-clause-as_called : goal.returns-in-Err-Full-clause-as_called
+returns-in-Err-Full-clause-as_called g c =
+    move_answered g.D.Held.HeldFile.bytes c.args.passing.now c.in-Some.going c.in-Some.is c.args.name true
+    (ap (λ (n : Name). bytes_eq n c.in-Some.going.name) (sym c.as_slice.ensures) ∙ sym c.is_named.ensures ∙ c.if-not-is_named.false)
+    (Some c.in-Some-take.batch) (sym c.in-Some-take.ensures.value) _ g.D.Watched g.D.Reader.Reader.faults
+    (at c.args.served.now.engine.disk c.args.served.now.engine.core c.args.served.now.engine.merging)
+    (at c.relocate.new.self.disk c.relocate.new.self.core c.relocate.new.self.merging)
+    (inr (
+      Err c.in-Err-Full.field-0,
+      c.in_ok-reader.reader.looks,
+      c.relocate.new.looks,
+      c.in-Err-Full.ensures.as_moved,
+      sym (ap (λ (f : MoveFail). move_answer (Err f)) c.in-Err-Full.field-0-is),
+    ))
+
+pub returns-in-Err-Exhausted-clause-as_called : goal.returns-in-Err-Exhausted-clause-as_called
+returns-in-Err-Exhausted-clause-as_called g c =
+    move_answered g.D.Held.HeldFile.bytes c.args.passing.now c.in-Some.going c.in-Some.is c.args.name true
+    (ap (λ (n : Name). bytes_eq n c.in-Some.going.name) (sym c.as_slice.ensures) ∙ sym c.is_named.ensures ∙ c.if-not-is_named.false)
+    (Some c.in-Some-take.batch) (sym c.in-Some-take.ensures.value) _ g.D.Watched g.D.Reader.Reader.faults
+    (at c.args.served.now.engine.disk c.args.served.now.engine.core c.args.served.now.engine.merging)
+    (at c.relocate.new.self.disk c.relocate.new.self.core c.relocate.new.self.merging)
+    (inr (
+      Err c.in-Err-Exhausted.field-0,
+      c.in_ok-reader.reader.looks,
+      c.relocate.new.looks,
+      c.in-Err-Exhausted.ensures.as_moved,
+      sym (ap (λ (f : MoveFail). move_answer (Err f)) c.in-Err-Exhausted.field-0-is),
+    ))
+
+pub returns-in-Err-NoMemory-clause-as_called : goal.returns-in-Err-NoMemory-clause-as_called
+returns-in-Err-NoMemory-clause-as_called g c =
+    move_answered g.D.Held.HeldFile.bytes c.args.passing.now c.in-Some.going c.in-Some.is c.args.name true
+    (ap (λ (n : Name). bytes_eq n c.in-Some.going.name) (sym c.as_slice.ensures) ∙ sym c.is_named.ensures ∙ c.if-not-is_named.false)
+    (Some c.in-Some-take.batch) (sym c.in-Some-take.ensures.value) _ g.D.Watched g.D.Reader.Reader.faults
+    (at c.args.served.now.engine.disk c.args.served.now.engine.core c.args.served.now.engine.merging)
+    (at c.relocate.new.self.disk c.relocate.new.self.core c.relocate.new.self.merging)
+    (inr (
+      Err c.in-Err-NoMemory.field-0,
+      c.in_ok-reader.reader.looks,
+      c.relocate.new.looks,
+      c.in-Err-NoMemory.ensures.as_moved,
+      sym (ap (λ (f : MoveFail). move_answer (Err f)) c.in-Err-NoMemory.field-0-is),
+    ))
+
+pub returns-in-Err-Disk-clause-as_called : goal.returns-in-Err-Disk-clause-as_called
+returns-in-Err-Disk-clause-as_called g c =
+    move_answered g.D.Held.HeldFile.bytes c.args.passing.now c.in-Some.going c.in-Some.is c.args.name true
+    (ap (λ (n : Name). bytes_eq n c.in-Some.going.name) (sym c.as_slice.ensures) ∙ sym c.is_named.ensures ∙ c.if-not-is_named.false)
+    (Some c.in-Some-take.batch) (sym c.in-Some-take.ensures.value) _ g.D.Watched g.D.Reader.Reader.faults
+    (at c.args.served.now.engine.disk c.args.served.now.engine.core c.args.served.now.engine.merging)
+    (at c.relocate.new.self.disk c.relocate.new.self.core c.relocate.new.self.merging)
+    (inr (
+      Err c.in-Err-Disk.field-0,
+      c.in_ok-reader.reader.looks,
+      c.relocate.new.looks,
+      c.in-Err-Disk.ensures.as_moved,
+      sym (ap (λ (f : MoveFail). move_answer (Err f)) c.in-Err-Disk.field-0-is),
+    ))
+
+pub returns-in-Err-Read-clause-as_called : goal.returns-in-Err-Read-clause-as_called
+returns-in-Err-Read-clause-as_called g c =
+    move_answered g.D.Held.HeldFile.bytes c.args.passing.now c.in-Some.going c.in-Some.is c.args.name true
+    (ap (λ (n : Name). bytes_eq n c.in-Some.going.name) (sym c.as_slice.ensures) ∙ sym c.is_named.ensures ∙ c.if-not-is_named.false)
+    (Some c.in-Some-take.batch) (sym c.in-Some-take.ensures.value) _ g.D.Watched g.D.Reader.Reader.faults
+    (at c.args.served.now.engine.disk c.args.served.now.engine.core c.args.served.now.engine.merging)
+    (at c.relocate.new.self.disk c.relocate.new.self.core c.relocate.new.self.merging)
+    (inr (
+      Err c.in-Err-Read.field-0,
+      c.in_ok-reader.reader.looks,
+      c.relocate.new.looks,
+      c.in-Err-Read.ensures.as_moved,
+      sym (ap (λ (f : MoveFail). move_answer (Err f)) c.in-Err-Read.field-0-is),
+    ))
+
+pub returns-in-Err-Damaged-clause-as_called : goal.returns-in-Err-Damaged-clause-as_called
+returns-in-Err-Damaged-clause-as_called g c =
+    move_answered g.D.Held.HeldFile.bytes c.args.passing.now c.in-Some.going c.in-Some.is c.args.name true
+    (ap (λ (n : Name). bytes_eq n c.in-Some.going.name) (sym c.as_slice.ensures) ∙ sym c.is_named.ensures ∙ c.if-not-is_named.false)
+    (Some c.in-Some-take.batch) (sym c.in-Some-take.ensures.value) _ g.D.Watched g.D.Reader.Reader.faults
+    (at c.args.served.now.engine.disk c.args.served.now.engine.core c.args.served.now.engine.merging)
+    (at c.relocate.new.self.disk c.relocate.new.self.core c.relocate.new.self.merging)
+    (inr (
+      Err c.in-Err-Damaged.field-0,
+      c.in_ok-reader.reader.looks,
+      c.relocate.new.looks,
+      c.in-Err-Damaged.ensures.as_moved,
+      sym (ap (λ (f : MoveFail). move_answer (Err f)) c.in-Err-Damaged.field-0-is),
+    ))
+
+pub returns-clause-as_called : goal.returns-clause-as_called
+returns-clause-as_called g c =
+    move_answered g.D.Held.HeldFile.bytes c.args.passing.now c.in-Some.going c.in-Some.is c.args.name true
+    (ap (λ (n : Name). bytes_eq n c.in-Some.going.name) (sym c.as_slice.ensures) ∙ sym c.is_named.ensures ∙ c.if-not-is_named.false)
+    (Some c.in-Some-take.batch) (sym c.in-Some-take.ensures.value) _ g.D.Watched g.D.Reader.Reader.faults
+    (at c.args.served.now.engine.disk c.args.served.now.engine.core c.args.served.now.engine.merging)
+    (at c.relocate.new.self.disk c.relocate.new.self.core c.relocate.new.self.merging)
+    (inr (
+      Err c.in-Err-Halted.field-0,
+      c.in_ok-reader.reader.looks,
+      c.relocate.new.looks,
+      c.in-Err-Halted.ensures.as_moved,
+      sym (ap (λ (f : MoveFail). move_answer (Err f)) c.in-Err-Halted.field-0-is),
+    ))

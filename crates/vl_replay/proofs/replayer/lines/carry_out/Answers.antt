@@ -1,6 +1,6 @@
 -- Each line's call makes the line's step.
-use Rattle.std.proofs.Common.{ap, refl, sym, subst}
-use Rattle.std.specs.Prelude.{Ok, OnOk}
+use Rattle.std.proofs.Common.{◌≡◌, ap, false, refl, sym, subst, true}
+use Rattle.std.specs.Prelude.{Option, None, Some, Result, Ok, Err, OnOk}
 use Rattle.vl_engine_laws.specs.Shown.{Shown}
 use Rattle.vl_engine_model.specs.Store.Reading.{a_transaction, a_view, answer_of, answer_with_tag}
 use Rattle.vl_engine_model.specs.Store.Things.{Step, thing_of}
@@ -13,12 +13,17 @@ use Rattle.vl_replay.specs.Served.{RemovesIn}
 use Rattle.vl_script_model.specs.Sequential.{answer_to, history_of, state_after, step_to}
 use Rattle.vl_script_model.specs.Stored.{IsStopped, IsStored}
 use Rattle.vl_script_model.specs.laws.Growing.{batch_keeps, begin_keeps, get_at_keeps, get_keeps, scan_keeps, stats_keeps, write_keeps}
+use Rattle.vl_script.specs.declared.answer.Answer.TheVariants as answers
 use Rattle.vl_script.specs.declared.line.Line.{Line}
 use Rattle.vl_script.specs.declared.line.Line.TheVariants as lines
 use Rattle.vl_replay_laws.specs.laws.Disk.Carried.{quiet_carries}
 use Rattle.vl_replay_laws.specs.laws.Merges.Keeping.{commit_keeps_work, flush_keeps_merges, flush_keeps_passes, get_at_keeps_work}
 use Rattle.vl_replay_laws.specs.laws.Merges.Keeping.{get_keeps_work, keep_keeps_work, merges_kept, rotate_keeps_merges, rotate_keeps_passes}
 use Rattle.vl_replay_laws.specs.laws.Merges.Keeping.{scan_keeps_work, transaction_keeps_work, view_keeps_work, write_keeps_work}
+use Rattle.vl_replay.proofs.AsCalled.Lines.{named_answers}
+use Rattle.vl_replay.proofs.AsCalled.Looking.{asks_back, asks_key, asks_rows}
+use Rattle.vl_replay_laws.specs.Standing.{open_in}
+use Rattle.vl_replay.specs.AsCalled.{AnswersLine}
 use Rattle.vl_replay.proofs.Lines.Moves.{can_moved, merges_answered, move_tells}
 use Rattle.vl_replay.proofs.Lines.Parts.{merging_of, passing_of, removing_of}
 use Rattle.vl_replay_laws.specs.laws.Lines.Passed.{bare_no_pass, batch_keeps_merges, install_passes, plan_passes}
@@ -26,7 +31,7 @@ use Rattle.vl_replay_laws.specs.laws.Lines.Unmoved.{free_name, leaves_carries, t
 use Rattle.vl_replay_laws.specs.laws.Lines.Unmoved.{unanswered_carries, used_line}
 use Rattle.vl_replay.proofs.Merges.Handing.{can_answered, can_same}
 use Rattle.vl_replay_laws.specs.laws.Merges.Waiting.{merges_behind, on_ok_of}
-use Rattle.vl_script_model.specs.laws.Halting.{not_by_disk, out_not_by_disk}
+use Rattle.vl_script_model.specs.laws.Halting.{err_reads_well, not_by_disk, out_not_by_disk, out_reads_well}
 use Rattle.vl_replay_laws.specs.laws.Names.Halts.{by_the_reader, damage_is_read, no_cause, not_at, not_by_damage, not_by_read}
 use Rattle.vl_replay_laws.specs.laws.Names.Halts.{not_by_reader, reader_is_read}
 use Rattle.vl_replay_laws.specs.laws.Passes.Picking.{pick_keeps_merges}
@@ -50,21 +55,21 @@ returns-in_err-name-clause-carries g c s stands =
 
 pub returns-in-Some-clause-makes : goal.returns-in-Some-clause-makes
 returns-in-Some-clause-makes g c s stands =
-    taken_makes s c.args.line c.in-Some.name (used_line s c.args.line c.in-Some.is (c.in_ok-name.ensures s stands))
+    taken_makes s c.args.line c.in-Some.name (used_line s c.args.line c.in-Some.is (c.in_ok-name.ensures.used s stands))
     g.D.Held.HeldFile.bytes (g.D.Watched.told c.args.served.now.engine.disk) c.args.served.now.engine.core c.args.served.now.opens.items
     stands.serves
 
 pub returns-in-Some-clause-merges : goal.returns-in-Some-clause-merges
 returns-in-Some-clause-merges g c s stands =
     subst (λ (x : Step). MergesIn g.D.Writer.Writer g.D.Held.HeldFile.bytes c.args.served.now.engine.merging c.args.planned.now x.state)
-    (sym (taken_step s c.args.line c.in-Some.name (used_line s c.args.line c.in-Some.is (c.in_ok-name.ensures s stands))))
+    (sym (taken_step s c.args.line c.in-Some.name (used_line s c.args.line c.in-Some.is (c.in_ok-name.ensures.used s stands))))
     stands.merges
 
 pub returns-in-Some-clause-passes : goal.returns-in-Some-clause-passes
 returns-in-Some-clause-passes g c s stands =
     subst (λ (x : Step). PassesIn g.D.Held.HeldFile.bytes c.args.served.now.engine.core c.args.served.now.engine.collecting
     c.args.passing.now x.state)
-    (sym (taken_step s c.args.line c.in-Some.name (used_line s c.args.line c.in-Some.is (c.in_ok-name.ensures s stands))))
+    (sym (taken_step s c.args.line c.in-Some.name (used_line s c.args.line c.in-Some.is (c.in_ok-name.ensures.used s stands))))
     stands.passes
 
 pub returns-in-Some-clause-carries : goal.returns-in-Some-clause-carries
@@ -72,7 +77,7 @@ returns-in-Some-clause-carries g c s stands =
     leaves_carries g.D.Watched (record { only_now = g.met.D.Disk.only_now; counts_now = g.met.D.Disk.counts_now }) s
     c.args.served.now.engine.disk
     (state_after s c.args.line) _ (taken_leaves s c.args.line c.in-Some.name
-    (used_line s c.args.line c.in-Some.is (c.in_ok-name.ensures s stands)))
+    (used_line s c.args.line c.in-Some.is (c.in_ok-name.ensures.used s stands)))
 
 -- ---- each line
 
@@ -82,7 +87,7 @@ returns-in-Begin-clause-makes g c s stands =
     c.begin.new.self.engine.core
     c.begin.new.self.opens.items s (step_to s line) c.begin.result)
     (sym c.in-Begin.is) (c.begin.ensures.makes s stands.serves
-    (free_name s c.args.line c.in_default.is (c.in_ok-name.ensures s stands) (ap name_made c.in-Begin.is)))
+    (free_name s c.args.line c.in_default.is (c.in_ok-name.ensures.used s stands) (ap name_made c.in-Begin.is)))
 
 pub returns-in-Begin-clause-sound : goal.returns-in-Begin-clause-sound
 returns-in-Begin-clause-sound g c s stands halts = absurd (not_by_read c.begin.result c.begin.ensures.fails halts)
@@ -106,7 +111,7 @@ returns-in-Begin-clause-carries g c s stands =
     (g.D.Watched.told c.begin.new.self.engine.disk) c.begin.new.self.engine.core c.begin.new.self.opens.items s
     (step_to s (lines.Begin c.in-Begin.name))
     (begin_keeps s.store c.in-Begin.name a_transaction (thing_of s.store c.in-Begin.name)) c.begin.result
-    (c.begin.ensures.makes s stands.serves (free_name s c.args.line c.in_default.is (c.in_ok-name.ensures s stands)
+    (c.begin.ensures.makes s stands.serves (free_name s c.args.line c.in_default.is (c.in_ok-name.ensures.used s stands)
     (ap name_made c.in-Begin.is))) (not_by_disk c.begin.result c.begin.ensures.fails) c.args.served.now.engine.disk
     c.begin.new.self.engine.disk
     c.begin.ensures.disk)
@@ -117,7 +122,7 @@ returns-in-View-clause-makes g c s stands =
     c.view.new.self.engine.core c.view.new.self.opens.items
     s (step_to s line) c.view.result)
     (sym c.in-View.is) (c.view.ensures.makes s stands.serves
-    (free_name s c.args.line c.in_default.is (c.in_ok-name.ensures s stands) (ap name_made c.in-View.is)))
+    (free_name s c.args.line c.in_default.is (c.in_ok-name.ensures.used s stands) (ap name_made c.in-View.is)))
 
 pub returns-in-View-clause-sound : goal.returns-in-View-clause-sound
 returns-in-View-clause-sound g c s stands halts = absurd (not_by_read c.view.result c.view.ensures.fails halts)
@@ -141,7 +146,7 @@ returns-in-View-clause-carries g c s stands =
     (g.D.Watched.told c.view.new.self.engine.disk) c.view.new.self.engine.core c.view.new.self.opens.items s
     (step_to s (lines.View c.in-View.name)) (begin_keeps
     s.store c.in-View.name a_view (thing_of s.store c.in-View.name)) c.view.result
-    (c.view.ensures.makes s stands.serves (free_name s c.args.line c.in_default.is (c.in_ok-name.ensures s stands)
+    (c.view.ensures.makes s stands.serves (free_name s c.args.line c.in_default.is (c.in_ok-name.ensures.used s stands)
     (ap name_made c.in-View.is))) (not_by_disk c.view.result c.view.ensures.fails) c.args.served.now.engine.disk
     c.view.new.self.engine.disk c.view.ensures.disk)
 
@@ -154,8 +159,11 @@ returns-in-Get-clause-makes g c s stands =
 
 pub returns-in-Get-clause-sound : goal.returns-in-Get-clause-sound
 returns-in-Get-clause-sound g c s stands halts =
-    subst (λ (line : Line). ReadsTables line s) (sym c.in-Get.is)
-    (λ untabled. not_by_read c.read.result (c.read.ensures.near s stands.serves untabled) halts)
+    subst (λ (line : Line). ReadsTables line s) (sym c.in-Get.is) (
+      λ untabled. not_by_read c.read.result (c.read.ensures.near s stands.serves untabled) halts,
+      asks_key g.D.Held.HeldFile.bytes _ (history_of s) s.store.layout (thing_of s.store c.in-Get.name) _ c.in-Get.name c.read.result halts
+          (open_in c.args.served.now.opens.items c.in-Get.name) false c.in-Get.key (stands.serves.names.each c.in-Get.name) c.read.ensures.as_called,
+    )
 
 pub returns-in-Get-clause-undamaged : goal.returns-in-Get-clause-undamaged
 returns-in-Get-clause-undamaged g c s stands = c.read.ensures.undamaged s stands.serves
@@ -189,8 +197,11 @@ returns-in-GetTagged-clause-makes g c s stands =
 
 pub returns-in-GetTagged-clause-sound : goal.returns-in-GetTagged-clause-sound
 returns-in-GetTagged-clause-sound g c s stands halts =
-    subst (λ (line : Line). ReadsTables line s) (sym c.in-GetTagged.is)
-    (λ untabled. not_by_read c.read-in-GetTagged.result (c.read-in-GetTagged.ensures.near s stands.serves untabled) halts)
+    subst (λ (line : Line). ReadsTables line s) (sym c.in-GetTagged.is) (
+      λ untabled. not_by_read c.read-in-GetTagged.result (c.read-in-GetTagged.ensures.near s stands.serves untabled) halts,
+      asks_key g.D.Held.HeldFile.bytes _ (history_of s) s.store.layout (thing_of s.store c.in-GetTagged.name) _ c.in-GetTagged.name c.read-in-GetTagged.result halts
+          (open_in c.args.served.now.opens.items c.in-GetTagged.name) true c.in-GetTagged.key (stands.serves.names.each c.in-GetTagged.name) c.read-in-GetTagged.ensures.as_called,
+    )
 
 pub returns-in-GetTagged-clause-undamaged : goal.returns-in-GetTagged-clause-undamaged
 returns-in-GetTagged-clause-undamaged g c s stands = c.read-in-GetTagged.ensures.undamaged s stands.serves
@@ -224,8 +235,14 @@ returns-in-GetAt-clause-makes g c s stands =
 
 pub returns-in-GetAt-clause-sound : goal.returns-in-GetAt-clause-sound
 returns-in-GetAt-clause-sound g c s stands halts =
-    subst (λ (line : Line). ReadsTables line s) (sym c.in-GetAt.is)
-    (λ untabled. not_by_read c.get_at.result (c.get_at.ensures.near s stands.serves untabled) halts)
+    let asks = asks_back g.D.Held.HeldFile.bytes _ (history_of s) s.store.layout (thing_of s.store c.in-GetAt.name) _ c.in-GetAt.name
+    c.get_at.result halts (open_in c.args.served.now.opens.items c.in-GetAt.name) c.in-GetAt.key c.in-GetAt.number
+    (stands.serves.names.each c.in-GetAt.name) c.get_at.ensures.as_called in
+    subst (λ (line : Line). ReadsTables line s) (sym c.in-GetAt.is) (
+      λ untabled. not_by_read c.get_at.result (c.get_at.ensures.near s stands.serves untabled) halts,
+      asks.0,
+      asks.1,
+    )
 
 pub returns-in-GetAt-clause-undamaged : goal.returns-in-GetAt-clause-undamaged
 returns-in-GetAt-clause-undamaged g c s stands = c.get_at.ensures.undamaged s stands.serves
@@ -364,8 +381,11 @@ returns-in-Scan-clause-makes g c s stands =
 
 pub returns-in-Scan-clause-sound : goal.returns-in-Scan-clause-sound
 returns-in-Scan-clause-sound g c s stands halts =
-    subst (λ (line : Line). ReadsTables line s) (sym c.in-Scan.is)
-    (λ untabled. not_by_read c.scan.result (c.scan.ensures.near s stands.serves untabled) halts)
+    subst (λ (line : Line). ReadsTables line s) (sym c.in-Scan.is) (
+      λ untabled. not_by_read c.scan.result (c.scan.ensures.near s stands.serves untabled) halts,
+      asks_rows g.D.Held.HeldFile.bytes _ (history_of s) s.store.layout (thing_of s.store c.in-Scan.name) _ c.in-Scan.name c.scan.result halts
+          (open_in c.args.served.now.opens.items c.in-Scan.name) c.in-Scan.low c.in-Scan.high (stands.serves.names.each c.in-Scan.name) c.scan.ensures.as_called,
+    )
 
 pub returns-in-Scan-clause-undamaged : goal.returns-in-Scan-clause-undamaged
 returns-in-Scan-clause-undamaged g c s stands = c.scan.ensures.undamaged s stands.serves
@@ -791,7 +811,7 @@ pub returns-in-Plan-clause-makes : goal.returns-in-Plan-clause-makes
 returns-in-Plan-clause-makes g c s stands =
     subst (λ (line : Line). MakesStep g.D.Held.HeldFile.bytes (g.D.Watched.told c.plan.new.served.engine.disk) c.plan.new.served.engine.core
     c.plan.new.served.opens.items s (step_to s line) c.plan.result) (sym c.in-Plan.is)
-    (c.plan.ensures.makes s (merging_of stands) (free_name s c.args.line c.in_default.is (c.in_ok-name.ensures s stands)
+    (c.plan.ensures.makes s (merging_of stands) (free_name s c.args.line c.in_default.is (c.in_ok-name.ensures.used s stands)
     (ap name_made c.in-Plan.is)))
 
 pub returns-in-Drain-clause-makes : goal.returns-in-Drain-clause-makes
@@ -799,7 +819,7 @@ returns-in-Drain-clause-makes g c s stands =
     subst (λ (line : Line). MakesStep g.D.Held.HeldFile.bytes (g.D.Watched.told c.plan-in-Drain.new.served.engine.disk)
     c.plan-in-Drain.new.served.engine.core c.plan-in-Drain.new.served.opens.items s (step_to s line) c.plan-in-Drain.result)
     (sym c.in-Drain.is)
-    (c.plan-in-Drain.ensures.makes s (merging_of stands) (free_name s c.args.line c.in_default.is (c.in_ok-name.ensures s stands)
+    (c.plan-in-Drain.ensures.makes s (merging_of stands) (free_name s c.args.line c.in_default.is (c.in_ok-name.ensures.used s stands)
     (ap name_made c.in-Drain.is)))
 
 pub returns-in-Plan-clause-merges : goal.returns-in-Plan-clause-merges
@@ -807,7 +827,7 @@ returns-in-Plan-clause-merges g c s stands =
     subst (λ (line : Line). OnOk c.plan.result
     (MergesIn g.D.Writer.Writer g.D.Held.HeldFile.bytes c.plan.new.served.engine.merging c.plan.new.planned
     (step_to s line).state)) (sym c.in-Plan.is)
-    (c.plan.ensures.merges s (merging_of stands) (free_name s c.args.line c.in_default.is (c.in_ok-name.ensures s stands)
+    (c.plan.ensures.merges s (merging_of stands) (free_name s c.args.line c.in_default.is (c.in_ok-name.ensures.used s stands)
     (ap name_made c.in-Plan.is)))
 
 pub returns-in-Drain-clause-merges : goal.returns-in-Drain-clause-merges
@@ -815,55 +835,55 @@ returns-in-Drain-clause-merges g c s stands =
     subst (λ (line : Line). OnOk c.plan-in-Drain.result
     (MergesIn g.D.Writer.Writer g.D.Held.HeldFile.bytes c.plan-in-Drain.new.served.engine.merging c.plan-in-Drain.new.planned
     (step_to s line).state)) (sym c.in-Drain.is)
-    (c.plan-in-Drain.ensures.merges s (merging_of stands) (free_name s c.args.line c.in_default.is (c.in_ok-name.ensures s stands)
+    (c.plan-in-Drain.ensures.merges s (merging_of stands) (free_name s c.args.line c.in_default.is (c.in_ok-name.ensures.used s stands)
     (ap name_made c.in-Drain.is)))
 
 pub returns-in-Plan-clause-carries : goal.returns-in-Plan-clause-carries
 returns-in-Plan-clause-carries g c s stands =
     subst (λ (line : Line). CarriesOut g.D.Watched IsStored Shown IsStopped c.args.served.now.engine.disk
     c.plan.new.served.engine.disk s (state_after s line) c.plan.result) (sym c.in-Plan.is)
-    (c.plan.ensures.carries s (merging_of stands) (free_name s c.args.line c.in_default.is (c.in_ok-name.ensures s stands)
+    (c.plan.ensures.carries s (merging_of stands) (free_name s c.args.line c.in_default.is (c.in_ok-name.ensures.used s stands)
     (ap name_made c.in-Plan.is)))
 
 pub returns-in-Drain-clause-carries : goal.returns-in-Drain-clause-carries
 returns-in-Drain-clause-carries g c s stands =
     subst (λ (line : Line). CarriesOut g.D.Watched IsStored Shown IsStopped c.args.served.now.engine.disk
     c.plan-in-Drain.new.served.engine.disk s (state_after s line) c.plan-in-Drain.result) (sym c.in-Drain.is)
-    (c.plan-in-Drain.ensures.carries s (merging_of stands) (free_name s c.args.line c.in_default.is (c.in_ok-name.ensures s stands)
+    (c.plan-in-Drain.ensures.carries s (merging_of stands) (free_name s c.args.line c.in_default.is (c.in_ok-name.ensures.used s stands)
     (ap name_made c.in-Drain.is)))
 
 pub returns-in-Plan-clause-named : goal.returns-in-Plan-clause-named
 returns-in-Plan-clause-named g c s file stands is =
     subst (λ (line : Line). FailsAt c.args.served.now.engine.core.back.manifest.number line s file) (sym c.in-Plan.is)
-    (c.plan.ensures.named s file (merging_of stands) (free_name s c.args.line c.in_default.is (c.in_ok-name.ensures s stands)
+    (c.plan.ensures.named s file (merging_of stands) (free_name s c.args.line c.in_default.is (c.in_ok-name.ensures.used s stands)
     (ap name_made c.in-Plan.is)) is)
 
 pub returns-in-Drain-clause-named : goal.returns-in-Drain-clause-named
 returns-in-Drain-clause-named g c s file stands is =
     subst (λ (line : Line). FailsAt c.args.served.now.engine.core.back.manifest.number line s file) (sym c.in-Drain.is)
-    (c.plan-in-Drain.ensures.named s file (merging_of stands) (free_name s c.args.line c.in_default.is (c.in_ok-name.ensures s stands)
+    (c.plan-in-Drain.ensures.named s file (merging_of stands) (free_name s c.args.line c.in_default.is (c.in_ok-name.ensures.used s stands)
     (ap name_made c.in-Drain.is)) is)
 
 pub returns-in-Plan-clause-sound : goal.returns-in-Plan-clause-sound
 returns-in-Plan-clause-sound g c s stands halts =
     subst (λ (line : Line). ReadsTables line s) (sym c.in-Plan.is)
-    (c.plan.ensures.sound s (merging_of stands) (free_name s c.args.line c.in_default.is (c.in_ok-name.ensures s stands)
+    (c.plan.ensures.sound s (merging_of stands) (free_name s c.args.line c.in_default.is (c.in_ok-name.ensures.used s stands)
     (ap name_made c.in-Plan.is)) halts)
 
 pub returns-in-Drain-clause-sound : goal.returns-in-Drain-clause-sound
 returns-in-Drain-clause-sound g c s stands halts =
     subst (λ (line : Line). ReadsTables line s) (sym c.in-Drain.is)
-    (c.plan-in-Drain.ensures.sound s (merging_of stands) (free_name s c.args.line c.in_default.is (c.in_ok-name.ensures s stands)
+    (c.plan-in-Drain.ensures.sound s (merging_of stands) (free_name s c.args.line c.in_default.is (c.in_ok-name.ensures.used s stands)
     (ap name_made c.in-Drain.is)) halts)
 
 pub returns-in-Plan-clause-undamaged : goal.returns-in-Plan-clause-undamaged
 returns-in-Plan-clause-undamaged g c s stands =
-    c.plan.ensures.undamaged s (merging_of stands) (free_name s c.args.line c.in_default.is (c.in_ok-name.ensures s stands)
+    c.plan.ensures.undamaged s (merging_of stands) (free_name s c.args.line c.in_default.is (c.in_ok-name.ensures.used s stands)
     (ap name_made c.in-Plan.is))
 
 pub returns-in-Drain-clause-undamaged : goal.returns-in-Drain-clause-undamaged
 returns-in-Drain-clause-undamaged g c s stands =
-    c.plan-in-Drain.ensures.undamaged s (merging_of stands) (free_name s c.args.line c.in_default.is (c.in_ok-name.ensures s stands)
+    c.plan-in-Drain.ensures.undamaged s (merging_of stands) (free_name s c.args.line c.in_default.is (c.in_ok-name.ensures.used s stands)
     (ap name_made c.in-Drain.is))
 
 pub returns-in-Plan-clause-fault : goal.returns-in-Plan-clause-fault
@@ -914,7 +934,7 @@ returns-in-Plan-clause-passes g c s stands =
     c.plan.new.served.engine.collecting c.args.passing.now
     (step_to s line).state)) (sym c.in-Plan.is)
     (on_ok_of c.plan.result _
-    (plan_passes s.store c.in-Plan.name (bare_no_pass _ (free_name s c.args.line c.in_default.is (c.in_ok-name.ensures s stands)
+    (plan_passes s.store c.in-Plan.name (bare_no_pass _ (free_name s c.args.line c.in_default.is (c.in_ok-name.ensures.used s stands)
     (ap name_made c.in-Plan.is))) g.D.Held.HeldFile.bytes c.args.served.now.engine.core c.plan.new.served.engine.core
     c.args.served.now.engine.collecting c.plan.new.served.engine.collecting c.args.passing.now c.plan.ensures.logs c.plan.ensures.collecting
     Due stands.passes))
@@ -925,7 +945,7 @@ returns-in-Drain-clause-passes g c s stands =
     c.plan-in-Drain.new.served.engine.collecting c.args.passing.now
     (step_to s line).state)) (sym c.in-Drain.is)
     (on_ok_of c.plan-in-Drain.result _
-    (plan_passes s.store c.in-Drain.name (bare_no_pass _ (free_name s c.args.line c.in_default.is (c.in_ok-name.ensures s stands)
+    (plan_passes s.store c.in-Drain.name (bare_no_pass _ (free_name s c.args.line c.in_default.is (c.in_ok-name.ensures.used s stands)
     (ap name_made c.in-Drain.is))) g.D.Held.HeldFile.bytes c.args.served.now.engine.core c.plan-in-Drain.new.served.engine.core
     c.args.served.now.engine.collecting c.plan-in-Drain.new.served.engine.collecting c.args.passing.now
     c.plan-in-Drain.ensures.logs c.plan-in-Drain.ensures.collecting (LeadsInto c.in-Drain.segment) stands.passes))
@@ -1164,7 +1184,7 @@ pub returns-in-Pick-clause-makes : goal.returns-in-Pick-clause-makes
 returns-in-Pick-clause-makes g c s stands =
     subst (λ (line : Line). MakesStep g.D.Held.HeldFile.bytes (g.D.Watched.told c.pick.new.served.engine.disk) c.pick.new.served.engine.core
     c.pick.new.served.opens.items s (step_to s line) c.pick.result) (sym c.in-Pick.is)
-    (c.pick.ensures.makes s (passing_of stands) (free_name s c.args.line c.in_default.is (c.in_ok-name.ensures s stands)
+    (c.pick.ensures.makes s (passing_of stands) (free_name s c.args.line c.in_default.is (c.in_ok-name.ensures.used s stands)
     (ap name_made c.in-Pick.is)))
 
 pub returns-in-Pick-clause-merges : goal.returns-in-Pick-clause-merges
@@ -1176,7 +1196,7 @@ returns-in-Pick-clause-merges g c s stands =
     (merges_behind g.D.Writer.Writer g.D.Held.HeldFile.bytes c.args.served.now.engine.merging c.pick.new.served.engine.merging
     c.args.planned.now c.args.planned.now
     c.pick.ensures.merging refl s.store (step_to s (lines.Pick c.in-Pick.name c.in-Pick.percent))
-    (pick_keeps_merges s c.in-Pick.name c.in-Pick.percent (free_name s c.args.line c.in_default.is (c.in_ok-name.ensures s stands)
+    (pick_keeps_merges s c.in-Pick.name c.in-Pick.percent (free_name s c.args.line c.in_default.is (c.in_ok-name.ensures.used s stands)
     (ap name_made c.in-Pick.is))) stands.merges))
 
 pub returns-in-Pick-clause-passes : goal.returns-in-Pick-clause-passes
@@ -1184,13 +1204,13 @@ returns-in-Pick-clause-passes g c s stands =
     subst (λ (line : Line). OnOk c.pick.result (PassesIn g.D.Held.HeldFile.bytes c.pick.new.served.engine.core
     c.pick.new.served.engine.collecting c.pick.new.passing
     (step_to s line).state)) (sym c.in-Pick.is) (c.pick.ensures.passes s (passing_of stands)
-    (free_name s c.args.line c.in_default.is (c.in_ok-name.ensures s stands) (ap name_made c.in-Pick.is)))
+    (free_name s c.args.line c.in_default.is (c.in_ok-name.ensures.used s stands) (ap name_made c.in-Pick.is)))
 
 pub returns-in-Pick-clause-carries : goal.returns-in-Pick-clause-carries
 returns-in-Pick-clause-carries g c s stands =
     subst (λ (line : Line). CarriesOut g.D.Watched IsStored Shown IsStopped c.args.served.now.engine.disk c.pick.new.served.engine.disk
     s (state_after s line) c.pick.result) (sym c.in-Pick.is)
-    (c.pick.ensures.carries s (passing_of stands) (free_name s c.args.line c.in_default.is (c.in_ok-name.ensures s stands)
+    (c.pick.ensures.carries s (passing_of stands) (free_name s c.args.line c.in_default.is (c.in_ok-name.ensures.used s stands)
     (ap name_made c.in-Pick.is)))
 
 pub returns-in-Pick-clause-sound : goal.returns-in-Pick-clause-sound
@@ -1336,19 +1356,19 @@ pub returns-in-Some-clause-removes : goal.returns-in-Some-clause-removes
 returns-in-Some-clause-removes g c s stands =
     let engine = c.args.served.now.engine in
     subst (λ (x : Step). Removes engine.core engine.removing x.state.layout)
-    (sym (taken_step s c.args.line c.in-Some.name (used_line s c.args.line c.in-Some.is (c.in_ok-name.ensures s stands))))
+    (sym (taken_step s c.args.line c.in-Some.name (used_line s c.args.line c.in-Some.is (c.in_ok-name.ensures.used s stands))))
     stands.removes
 
 pub returns-in-Begin-clause-removes : goal.returns-in-Begin-clause-removes
 returns-in-Begin-clause-removes g c s stands =
     subst (λ (line : Line). OnOk c.begin.result (RemovesIn c.begin.new.self (step_to s line).state)) (sym c.in-Begin.is)
-    (c.begin.ensures.removes s stands.serves (free_name s c.args.line c.in_default.is (c.in_ok-name.ensures s stands)
+    (c.begin.ensures.removes s stands.serves (free_name s c.args.line c.in_default.is (c.in_ok-name.ensures.used s stands)
     (ap name_made c.in-Begin.is)) stands.removes)
 
 pub returns-in-View-clause-removes : goal.returns-in-View-clause-removes
 returns-in-View-clause-removes g c s stands =
     subst (λ (line : Line). OnOk c.view.result (RemovesIn c.view.new.self (step_to s line).state)) (sym c.in-View.is)
-    (c.view.ensures.removes s stands.serves (free_name s c.args.line c.in_default.is (c.in_ok-name.ensures s stands)
+    (c.view.ensures.removes s stands.serves (free_name s c.args.line c.in_default.is (c.in_ok-name.ensures.used s stands)
     (ap name_made c.in-View.is)) stands.removes)
 
 pub returns-in-Get-clause-removes : goal.returns-in-Get-clause-removes
@@ -1442,13 +1462,13 @@ returns-in-Flush-clause-removes g c s stands =
 pub returns-in-Plan-clause-removes : goal.returns-in-Plan-clause-removes
 returns-in-Plan-clause-removes g c s stands =
     subst (λ (line : Line). OnOk c.plan.result (RemovesIn c.plan.new.served (step_to s line).state)) (sym c.in-Plan.is)
-    (c.plan.ensures.removes s (merging_of stands) (free_name s c.args.line c.in_default.is (c.in_ok-name.ensures s stands)
+    (c.plan.ensures.removes s (merging_of stands) (free_name s c.args.line c.in_default.is (c.in_ok-name.ensures.used s stands)
     (ap name_made c.in-Plan.is)) stands.removes)
 
 pub returns-in-Drain-clause-removes : goal.returns-in-Drain-clause-removes
 returns-in-Drain-clause-removes g c s stands =
     subst (λ (line : Line). OnOk c.plan-in-Drain.result (RemovesIn c.plan-in-Drain.new.served (step_to s line).state)) (sym c.in-Drain.is)
-    (c.plan-in-Drain.ensures.removes s (merging_of stands) (free_name s c.args.line c.in_default.is (c.in_ok-name.ensures s stands)
+    (c.plan-in-Drain.ensures.removes s (merging_of stands) (free_name s c.args.line c.in_default.is (c.in_ok-name.ensures.used s stands)
     (ap name_made c.in-Drain.is)) stands.removes)
 
 pub returns-in-Install-clause-removes : goal.returns-in-Install-clause-removes
@@ -1459,7 +1479,7 @@ returns-in-Install-clause-removes g c s stands =
 pub returns-in-Pick-clause-removes : goal.returns-in-Pick-clause-removes
 returns-in-Pick-clause-removes g c s stands =
     subst (λ (line : Line). OnOk c.pick.result (RemovesIn c.pick.new.served (step_to s line).state)) (sym c.in-Pick.is)
-    (c.pick.ensures.removes s (passing_of stands) (free_name s c.args.line c.in_default.is (c.in_ok-name.ensures s stands)
+    (c.pick.ensures.removes s (passing_of stands) (free_name s c.args.line c.in_default.is (c.in_ok-name.ensures.used s stands)
     (ap name_made c.in-Pick.is)) stands.removes)
 
 pub returns-in-Stats-clause-removes : goal.returns-in-Stats-clause-removes
@@ -1545,3 +1565,155 @@ returns-in-Sweep-clause-handed g c =
     can_answered g.D.Watched g.D.Writer.Writer c.args.served.now.engine.disk c.sweep.new.self.engine.disk
     c.args.served.now.engine.merging c.sweep.new.self.engine.merging c.args.planned.now
     c.sweep.ensures.merging c.sweep.result c.sweep.ensures.untold c.requires.handed
+
+-- ---- what a line is answered, whatever the disk holds
+
+err_not_ok : {T E : Type 0} (r : Result T E) (why : E) (x : T) → r ≡ Err why → r ≡ Ok x → ⊥
+err_not_ok r why x is same = cc
+
+some_not_none : {T E : Type 0} (r : Result (Option T) E) (v : Option T) (x : T) → r ≡ Ok v → v ≡ Some x → r ≡ Ok None → ⊥
+some_not_none r v x was is same = cc
+
+pub returns-in_err-name-clause-as_called : goal.returns-in_err-name-clause-as_called
+returns-in_err-name-clause-as_called g c =
+    named_answers g.D.Watched g.D.Held.HeldFile.bytes g.D.Reader.Reader.faults g.D.Writer.Writer c.args.served.now c.args.served.now c.args.passing.now
+    c.from_residual.result (err_reads_well c.from_residual.result c.from_residual.ensures.1) c.args.line
+    (λ none. err_not_ok c.name_in_use.result _ None c.in_err-name.was (c.name_in_use.ensures.unnamed none))
+
+pub returns-in-Some-clause-as_called : goal.returns-in-Some-clause-as_called
+returns-in-Some-clause-as_called g c =
+    named_answers g.D.Watched g.D.Held.HeldFile.bytes g.D.Reader.Reader.faults g.D.Writer.Writer c.args.served.now c.args.served.now c.args.passing.now
+    (Ok (answers.Taken c.in-Some.name)) tt c.args.line
+    (λ none. some_not_none c.name_in_use.result _ c.in-Some.name c.in_ok-name.was c.in-Some.is (c.name_in_use.ensures.unnamed none))
+
+pub returns-in-Begin-clause-as_called : goal.returns-in-Begin-clause-as_called
+returns-in-Begin-clause-as_called g c =
+    subst (λ (line : Line). AnswersLine g.D.Watched g.D.Held.HeldFile.bytes g.D.Reader.Reader.faults g.D.Writer.Writer c.args.served.now
+    c.begin.new.self c.args.passing.now line c.begin.result) (sym c.in-Begin.is)
+    (out_reads_well c.begin.result c.begin.ensures.fails)
+
+pub returns-in-View-clause-as_called : goal.returns-in-View-clause-as_called
+returns-in-View-clause-as_called g c =
+    subst (λ (line : Line). AnswersLine g.D.Watched g.D.Held.HeldFile.bytes g.D.Reader.Reader.faults g.D.Writer.Writer c.args.served.now
+    c.view.new.self c.args.passing.now line c.view.result) (sym c.in-View.is)
+    (out_reads_well c.view.result c.view.ensures.fails)
+
+pub returns-in-Get-clause-as_called : goal.returns-in-Get-clause-as_called
+returns-in-Get-clause-as_called g c =
+    subst (λ (line : Line). AnswersLine g.D.Watched g.D.Held.HeldFile.bytes g.D.Reader.Reader.faults g.D.Writer.Writer c.args.served.now
+    c.read.new.self c.args.passing.now line c.read.result) (sym c.in-Get.is)
+    c.read.ensures.as_called
+
+pub returns-in-GetTagged-clause-as_called : goal.returns-in-GetTagged-clause-as_called
+returns-in-GetTagged-clause-as_called g c =
+    subst (λ (line : Line). AnswersLine g.D.Watched g.D.Held.HeldFile.bytes g.D.Reader.Reader.faults g.D.Writer.Writer c.args.served.now
+    c.read-in-GetTagged.new.self c.args.passing.now line c.read-in-GetTagged.result) (sym c.in-GetTagged.is)
+    c.read-in-GetTagged.ensures.as_called
+
+pub returns-in-GetAt-clause-as_called : goal.returns-in-GetAt-clause-as_called
+returns-in-GetAt-clause-as_called g c =
+    subst (λ (line : Line). AnswersLine g.D.Watched g.D.Held.HeldFile.bytes g.D.Reader.Reader.faults g.D.Writer.Writer c.args.served.now
+    c.get_at.new.self c.args.passing.now line c.get_at.result) (sym c.in-GetAt.is)
+    c.get_at.ensures.as_called
+
+pub returns-in-Set-clause-as_called : goal.returns-in-Set-clause-as_called
+returns-in-Set-clause-as_called g c =
+    subst (λ (line : Line). AnswersLine g.D.Watched g.D.Held.HeldFile.bytes g.D.Reader.Reader.faults g.D.Writer.Writer c.args.served.now
+    c.write.new.self c.args.passing.now line c.write.result) (sym c.in-Set.is)
+    (out_reads_well c.write.result c.write.ensures.fails)
+
+pub returns-in-SetTagged-clause-as_called : goal.returns-in-SetTagged-clause-as_called
+returns-in-SetTagged-clause-as_called g c =
+    subst (λ (line : Line). AnswersLine g.D.Watched g.D.Held.HeldFile.bytes g.D.Reader.Reader.faults g.D.Writer.Writer c.args.served.now
+    c.write-in-SetTagged.new.self c.args.passing.now line c.write-in-SetTagged.result) (sym c.in-SetTagged.is)
+    (out_reads_well c.write-in-SetTagged.result c.write-in-SetTagged.ensures.fails)
+
+pub returns-in-Delete-clause-as_called : goal.returns-in-Delete-clause-as_called
+returns-in-Delete-clause-as_called g c =
+    subst (λ (line : Line). AnswersLine g.D.Watched g.D.Held.HeldFile.bytes g.D.Reader.Reader.faults g.D.Writer.Writer c.args.served.now
+    c.write-in-Delete.new.self c.args.passing.now line c.write-in-Delete.result) (sym c.in-Delete.is)
+    (out_reads_well c.write-in-Delete.result c.write-in-Delete.ensures.fails)
+
+pub returns-in-Scan-clause-as_called : goal.returns-in-Scan-clause-as_called
+returns-in-Scan-clause-as_called g c =
+    subst (λ (line : Line). AnswersLine g.D.Watched g.D.Held.HeldFile.bytes g.D.Reader.Reader.faults g.D.Writer.Writer c.args.served.now
+    c.scan.new.self c.args.passing.now line c.scan.result) (sym c.in-Scan.is)
+    c.scan.ensures.as_called
+
+pub returns-in-Commit-clause-as_called : goal.returns-in-Commit-clause-as_called
+returns-in-Commit-clause-as_called g c =
+    subst (λ (line : Line). AnswersLine g.D.Watched g.D.Held.HeldFile.bytes g.D.Reader.Reader.faults g.D.Writer.Writer c.args.served.now
+    c.commit.new.self c.args.passing.now line c.commit.result) (sym c.in-Commit.is)
+    c.commit.ensures.reads_well
+
+pub returns-in-Rotate-clause-as_called : goal.returns-in-Rotate-clause-as_called
+returns-in-Rotate-clause-as_called g c =
+    subst (λ (line : Line). AnswersLine g.D.Watched g.D.Held.HeldFile.bytes g.D.Reader.Reader.faults g.D.Writer.Writer c.args.served.now
+    c.rotate.new.self c.args.passing.now line c.rotate.result) (sym c.in-Rotate.is)
+    c.rotate.ensures.reads_well
+
+pub returns-in-Flush-clause-as_called : goal.returns-in-Flush-clause-as_called
+returns-in-Flush-clause-as_called g c =
+    subst (λ (line : Line). AnswersLine g.D.Watched g.D.Held.HeldFile.bytes g.D.Reader.Reader.faults g.D.Writer.Writer c.args.served.now
+    c.flush.new.self c.args.passing.now line c.flush.result) (sym c.in-Flush.is)
+    c.flush.ensures.reads_well
+
+pub returns-in-Keep-clause-as_called : goal.returns-in-Keep-clause-as_called
+returns-in-Keep-clause-as_called g c =
+    subst (λ (line : Line). AnswersLine g.D.Watched g.D.Held.HeldFile.bytes g.D.Reader.Reader.faults g.D.Writer.Writer c.args.served.now
+    c.keep.new.self c.args.passing.now line c.keep.result) (sym c.in-Keep.is)
+    c.keep.ensures.reads_well
+
+pub returns-in-Sweep-clause-as_called : goal.returns-in-Sweep-clause-as_called
+returns-in-Sweep-clause-as_called g c =
+    subst (λ (line : Line). AnswersLine g.D.Watched g.D.Held.HeldFile.bytes g.D.Reader.Reader.faults g.D.Writer.Writer c.args.served.now
+    c.sweep.new.self c.args.passing.now line c.sweep.result) (sym c.in-Sweep.is)
+    c.sweep.ensures.reads_well
+
+pub returns-in-Install-clause-as_called : goal.returns-in-Install-clause-as_called
+returns-in-Install-clause-as_called g c =
+    subst (λ (line : Line). AnswersLine g.D.Watched g.D.Held.HeldFile.bytes g.D.Reader.Reader.faults g.D.Writer.Writer c.args.served.now
+    c.install.new.served c.args.passing.now line c.install.result) (sym c.in-Install.is)
+    c.install.ensures.reads_well
+
+pub returns-in-Plan-clause-as_called : goal.returns-in-Plan-clause-as_called
+returns-in-Plan-clause-as_called g c =
+    subst (λ (line : Line). AnswersLine g.D.Watched g.D.Held.HeldFile.bytes g.D.Reader.Reader.faults g.D.Writer.Writer c.args.served.now
+    c.plan.new.served c.args.passing.now line c.plan.result) (sym c.in-Plan.is)
+    c.plan.ensures.as_called
+
+pub returns-in-Drain-clause-as_called : goal.returns-in-Drain-clause-as_called
+returns-in-Drain-clause-as_called g c =
+    subst (λ (line : Line). AnswersLine g.D.Watched g.D.Held.HeldFile.bytes g.D.Reader.Reader.faults g.D.Writer.Writer c.args.served.now
+    c.plan-in-Drain.new.served c.args.passing.now line c.plan-in-Drain.result) (sym c.in-Drain.is)
+    c.plan-in-Drain.ensures.as_called
+
+pub returns-in-Pick-clause-as_called : goal.returns-in-Pick-clause-as_called
+returns-in-Pick-clause-as_called g c =
+    subst (λ (line : Line). AnswersLine g.D.Watched g.D.Held.HeldFile.bytes g.D.Reader.Reader.faults g.D.Writer.Writer c.args.served.now
+    c.pick.new.served c.args.passing.now line c.pick.result) (sym c.in-Pick.is)
+    (out_reads_well c.pick.result c.pick.ensures.fails)
+
+pub returns-in-Move-clause-as_called : goal.returns-in-Move-clause-as_called
+returns-in-Move-clause-as_called g c =
+    subst (λ (line : Line). AnswersLine g.D.Watched g.D.Held.HeldFile.bytes g.D.Reader.Reader.faults g.D.Writer.Writer c.args.served.now
+    c.move_batch.new.served c.args.passing.now line c.move_batch.result) (sym c.in-Move.is)
+    c.move_batch.ensures.as_called
+
+pub returns-in-Drop-clause-as_called : goal.returns-in-Drop-clause-as_called
+returns-in-Drop-clause-as_called g c =
+    subst (λ (line : Line). AnswersLine g.D.Watched g.D.Held.HeldFile.bytes g.D.Reader.Reader.faults g.D.Writer.Writer c.args.served.now
+    c.end.new.served c.args.passing.now line (Ok c.end.result)) (sym c.in-Drop.is)
+    tt
+
+pub returns-in-Stats-clause-as_called : goal.returns-in-Stats-clause-as_called
+returns-in-Stats-clause-as_called g c =
+    subst (λ (line : Line). AnswersLine g.D.Watched g.D.Held.HeldFile.bytes g.D.Reader.Reader.faults g.D.Writer.Writer c.args.served.now
+    c.args.served.now c.args.passing.now line c.stats.result) (sym c.in-Stats.is)
+    (out_reads_well c.stats.result c.stats.ensures.fails)
+
+pub returns-in-Batch-clause-as_called : goal.returns-in-Batch-clause-as_called
+returns-in-Batch-clause-as_called g c =
+    subst (λ (line : Line). AnswersLine g.D.Watched g.D.Held.HeldFile.bytes g.D.Reader.Reader.faults g.D.Writer.Writer c.args.served.now
+    c.args.served.now c.args.passing.now line c.batch.result) (sym c.in-Batch.is)
+    c.batch.ensures.as_called

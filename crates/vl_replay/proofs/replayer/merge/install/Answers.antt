@@ -513,7 +513,7 @@ returns-clause-carries g c s stands =
       leaves = c.install.ensures.leaves;
       within = c.install.ensures.within;
     })
-    (Err (why.Read c.in-Err-Halted.file))
+    (Err (why.Halted c.in-Err-Halted.file))
     (answer_as c.install.result c.in-Err-Halted.field-0 _ c.in-Err-Halted.is c.in-Err-Halted.field-0-is) c.install.new.self.disk refl
 
 pub returns-clause-sound : goal.returns-clause-sound
@@ -536,4 +536,4 @@ returns-clause-sound g c s stands =
       leaves = c.install.ensures.leaves;
       within = c.install.ensures.within;
     })
-    (Err (why.Read c.in-Err-Halted.file)) (answer_as c.install.result c.in-Err-Halted.field-0 _ c.in-Err-Halted.is c.in-Err-Halted.field-0-is)
+    (Err (why.Halted c.in-Err-Halted.file)) (answer_as c.install.result c.in-Err-Halted.field-0 _ c.in-Err-Halted.is c.in-Err-Halted.field-0-is)

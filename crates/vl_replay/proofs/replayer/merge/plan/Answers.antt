@@ -1,5 +1,5 @@
 -- A merge is planned as the store has it, and carried out so.
-use Rattle.std.proofs.Common.{◌∙◌, ◌≡◌, ap, refl, subst, sym}
+use Rattle.std.proofs.Common.{◌∙◌, ◌≡◌, ap, inl, inr, refl, subst, sym}
 use Rattle.std.specs.Prelude.{Err, None, Ok, OnOk, Option, Result}
 use Rattle.vl_engine_laws.specs.Shown.{Shown}
 use Rattle.vl_engine_laws.specs.declared.kept.Core.{Core}
@@ -21,7 +21,9 @@ use Rattle.vl_script_model.specs.Stored.{IsStopped, IsStored}
 use Rattle.vl_script_model.specs.declared.fails.Halt.{Halt}
 use Rattle.vl_script.specs.declared.answer.Answer.{Answer}
 use Rattle.vl_script.specs.declared.answer.Answer.TheVariants as answers
+use Rattle.vl_replay.proofs.AsCalled.Merging.{met_halt}
 use Rattle.vl_replay.proofs.CarryingTables.{out_is}
+use Rattle.vl_script_model.specs.laws.Halting.{err_reads_well}
 use Rattle.vl_script_model.specs.laws.DiskSteps.{IsWatched}
 use Rattle.vl_replay.proofs.CarryingRemoved.{LeavesDrawn}
 use Rattle.vl_replay_laws.specs.laws.Merges.Planning.{planned_state}
@@ -516,3 +518,28 @@ returns-in-Ok-Some-clause-removes g c s stands bare removes =
     c.in-Ok-Some.counter (c.in-Ok-Some.is ∙ ap Ok c.in-Ok-Some.field-0-is) (Removes new.core new.removing) (Removes then.core
     then.removing)
     drew (λ k m o is there has so. c.abandon.ensures.removes k m o is there has so)
+
+-- ---- what it is answered, whatever the disk holds
+
+pub returns-then-is_some-clause-as_called : goal.returns-then-is_some-clause-as_called
+returns-then-is_some-clause-as_called g c = inl tt
+
+pub returns-in_err-job-clause-as_called : goal.returns-in_err-job-clause-as_called
+returns-in_err-job-clause-as_called g c = inl (err_reads_well c.from_residual.result c.from_residual.ensures.1)
+
+pub returns-in_default-clause-as_called : goal.returns-in_default-clause-as_called
+returns-in_default-clause-as_called g c = inl tt
+
+pub returns-in-Ok-None-clause-as_called : goal.returns-in-Ok-None-clause-as_called
+returns-in-Ok-None-clause-as_called g c = inl tt
+
+pub returns-in-Ok-Some-clause-as_called : goal.returns-in-Ok-Some-clause-as_called
+returns-in-Ok-Some-clause-as_called g c = inl tt
+
+pub returns-in-Err-clause-as_called : goal.returns-in-Err-clause-as_called
+returns-in-Err-clause-as_called g c = inr (
+  c.in-Some.job,
+  c.in_ok-job.ensures.base c.in-Some.job c.in-Some.is,
+  met_halt g.D.Held.HeldFile.bytes g.D.Reader.Reader.faults g.D.Writer.Writer _ c.in-Some.job (Option Counter) Answer c.in-Err.halt
+      c.in-Err.ensures.as_called,
+)

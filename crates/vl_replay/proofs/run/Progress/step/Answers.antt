@@ -2,19 +2,23 @@ use Rattle.std.proofs.Common.{◌≡◌, ◌≢◌, ◌∙◌, ◌++◌, ℕ, Li
 use Rattle.vl_disk.specs.Faults.{Rose}
 use Rattle.vl_script_model.specs.Endings.{Evidence, no_memory_line, read_fault_line}
 use Rattle.vl_script_model.specs.Reading.{ReadsOn, streams}
+use Rattle.vl_replay.specs.AsCalled.{AnswersAsCalled}
 use Rattle.vl_replay.specs.Served.{StandsFor, disk_of}
+use Rattle.vl_script_model.specs.Called.{CallsOn, IsApart, RunsAsCalled}
+use Rattle.vl_script_model.specs.laws.Calling.{calls_last, calls_line, ends_apart, no_fault_on}
 use Rattle.vl_script_model.specs.Runs.{outside}
 use Rattle.vl_script_model.specs.Steps.{kept, Steps}
 use Rattle.vl_script_model.specs.Stored.{IsStopped, IsStored}
 use Rattle.vl_engine_laws.specs.Shown.{Shown}
 use Rattle.vl_script_model.specs.declared.ending.Ending.{Ending}
-use Rattle.vl_script_model.specs.declared.ending.Ending.TheVariants.{NoMemory, ReadFault, ReaderFault}
+use Rattle.vl_script_model.specs.declared.ending.Ending.TheVariants.{Complete, NoMemory, ReadFault, ReaderFault}
 use Rattle.vl_script.specs.declared.next.Next.TheVariants.{Line as WholeLine, LastLine, TooLong, End}
 use Rattle.vl_script_model.specs.laws.Ends.{too_long_is_bad, finished, finish_counts, last_unread, line_leaves_disk, ended_lines-none, or_cut}
 use Rattle.vl_script_model.specs.laws.ShownDisk.{shown_stays, stored_exactly}
 use Rattle.vl_replay.proofs.Runs.ReadingOn.{ends_at_long, finishes_otherwise, reads_all, reads_end, reads_last, reads_line}
 use Rattle.vl_script_model.specs.laws.Stepping.{reads_script, still_keeps_up, next_line, next_last, step_line, step_last, step_apart}
 use Rattle.vl_script_model.specs.laws.Stepping.{step_end}
+use Rattle.vl_replay.proofs.Runs.StaysOpen.{held_open, stays_open}
 use Rattle.vl_replay.proofs.run.Progress.step.Goals as goal
 
 pub returns-in-Ok-Line-clause-runs : goal.returns-in-Ok-Line-clause-runs
@@ -238,3 +242,77 @@ returns-in-Err-NoMemory-clause-stands g c s stands on = absurd (some_none _ on)
 
 pub returns-in-Err-Fault-clause-stands : goal.returns-in-Err-Fault-clause-stands
 returns-in-Err-Fault-clause-stands g c s stands on = absurd (some_none _ on)
+
+-- ---- a store may be opened on the disk again
+
+pub returns-in-Ok-Line-clause-again : goal.returns-in-Ok-Line-clause-again
+returns-in-Ok-Line-clause-again g c s stands held = c.answer.ensures.again s stands held
+
+pub returns-in-Ok-LastLine-clause-again : goal.returns-in-Ok-LastLine-clause-again
+returns-in-Ok-LastLine-clause-again g c s stands held =
+    stays_open g.D.Watched
+    (StandsFor g.D.Watched g.D.Writer.Writer g.D.Held.HeldFile.bytes c.answer-in-Ok-LastLine.new.self.replayer) (disk_of c.answer-in-Ok-LastLine.new.self.replayer) c.answer-in-Ok-LastLine.result
+    (c.answer-in-Ok-LastLine.ensures.again s stands held)
+
+pub returns-in-Ok-TooLong-clause-again : goal.returns-in-Ok-TooLong-clause-again
+returns-in-Ok-TooLong-clause-again g c s stands held = held_open g.D.Watched s (disk_of c.args.self.now.replayer) held
+
+pub returns-in-Ok-End-clause-again : goal.returns-in-Ok-End-clause-again
+returns-in-Ok-End-clause-again g c s stands held = held_open g.D.Watched s (disk_of c.args.self.now.replayer) held
+
+pub returns-in-Err-NoMemory-clause-again : goal.returns-in-Err-NoMemory-clause-again
+returns-in-Err-NoMemory-clause-again g c s stands held = held_open g.D.Watched s (disk_of c.args.self.now.replayer) held
+
+pub returns-in-Err-Fault-clause-again : goal.returns-in-Err-Fault-clause-again
+returns-in-Err-Fault-clause-again g c s stands held = held_open g.D.Watched s (disk_of c.args.self.now.replayer) held
+
+-- ---- what its line is answered, whatever the disk holds
+
+pub returns-in-Ok-Line-clause-called : goal.returns-in-Ok-Line-clause-called
+returns-in-Ok-Line-clause-called g c first left begin h =
+    let called = AnswersAsCalled g.D.Watched g.D.Held.HeldFile.bytes g.D.Reader.Reader.faults g.D.Writer.Writer in
+    subst (λ (b : List ℕ). CallsOn called g.K.Sink c.args.self.now.on_fault first c.answer.new.self.replayer left
+    (g.S.Source.left c.read_line.new.source) b begin c.answer.new.sink c.answer.result) (sym c.answer.ensures.same)
+    (calls_line called g.K.Sink c.args.self.now.on_fault first left begin c.args.self.now.replayer (g.S.Source.left c.args.source.now)
+    c.args.self.now.buffer c.args.sink.now h c.read_line.new.line.items c.answer.new.self.replayer c.answer.new.sink
+    (g.S.Source.left c.read_line.new.source) c.read_line.new.buffer c.answer.result
+    (no_fault_on c.answer.result _ _ c.answer.ensures.sink_faults)
+    (λ rest is. rw c.in-Ok-Line.field-0-is at (c.in-Ok-Line.ensures.line rest is)) c.answer.ensures.called)
+
+pub returns-in-Ok-LastLine-clause-called : goal.returns-in-Ok-LastLine-clause-called
+returns-in-Ok-LastLine-clause-called g c first left begin h =
+    let called = AnswersAsCalled g.D.Watched g.D.Held.HeldFile.bytes g.D.Reader.Reader.faults g.D.Writer.Writer in
+    let answered = c.answer-in-Ok-LastLine in
+    subst (λ (e : Ending). RunsAsCalled called g.K.Sink c.args.self.now.on_fault first left begin answered.new.sink e)
+    (sym c.unwrap_or.ensures)
+    (calls_last called g.K.Sink c.args.self.now.on_fault first left begin c.args.self.now.replayer (g.S.Source.left c.args.source.now)
+    c.args.self.now.buffer c.args.sink.now h c.read_line.new.line.items answered.new.self.replayer answered.new.sink
+    (g.S.Source.left c.read_line.new.source) c.read_line.new.buffer answered.result
+    (no_fault_on answered.result _ _ answered.ensures.sink_faults)
+    (λ rest is. rw c.in-Ok-LastLine.field-0-is at (c.in-Ok-LastLine.ensures.line rest is)) answered.ensures.called)
+
+pub returns-in-Ok-TooLong-clause-called : goal.returns-in-Ok-TooLong-clause-called
+returns-in-Ok-TooLong-clause-called g c first left begin h =
+    ends_apart (AnswersAsCalled g.D.Watched g.D.Held.HeldFile.bytes g.D.Reader.Reader.faults g.D.Writer.Writer) g.K.Sink
+    c.args.self.now.on_fault first left begin c.args.self.now.replayer (g.S.Source.left c.args.source.now) c.args.self.now.buffer
+    c.args.sink.now h c.end_at_bad_line.new.sink c.end_at_bad_line.result c.end_at_bad_line.ensures.apart
+
+pub returns-in-Ok-End-clause-called : goal.returns-in-Ok-End-clause-called
+returns-in-Ok-End-clause-called g c first left begin h =
+    ends_apart (AnswersAsCalled g.D.Watched g.D.Held.HeldFile.bytes g.D.Reader.Reader.faults g.D.Writer.Writer) g.K.Sink
+    c.args.self.now.on_fault first left begin c.args.self.now.replayer (g.S.Source.left c.args.source.now) c.args.self.now.buffer
+    c.args.sink.now h c.args.sink.now Complete tt
+
+pub returns-in-Err-NoMemory-clause-called : goal.returns-in-Err-NoMemory-clause-called
+returns-in-Err-NoMemory-clause-called g c first left begin h =
+    ends_apart (AnswersAsCalled g.D.Watched g.D.Held.HeldFile.bytes g.D.Reader.Reader.faults g.D.Writer.Writer) g.K.Sink
+    c.args.self.now.on_fault first left begin c.args.self.now.replayer (g.S.Source.left c.args.source.now) c.args.self.now.buffer
+    c.args.sink.now h c.finish.new.sink c.finish.result
+    (or_cut g.K.Sink _ _ _ NoMemory c.finish.result IsApart c.finish.ensures tt tt)
+
+pub returns-in-Err-Fault-clause-called : goal.returns-in-Err-Fault-clause-called
+returns-in-Err-Fault-clause-called g c first left begin h =
+    let ended = c.finish-in-Err-Fault in
+    ends_apart (AnswersAsCalled g.D.Watched g.D.Held.HeldFile.bytes g.D.Reader.Reader.faults g.D.Writer.Writer) g.K.Sink
+    c.args.self.now.on_fault first left begin c.args.self.now.replayer (g.S.Source.left c.args.source.now) c.args.self.now.buffer
+    c.args.sink.now h ended.new.sink ended.result (or_cut g.K.Sink _ _ _ ReadFault ended.result IsApart ended.ensures tt tt)
