@@ -8,6 +8,7 @@ pub mod Modest
 pub mod Numbers
 pub mod Players
 pub mod Playing
+pub mod Refused
 pub mod Small
 pub mod Steps
 pub mod Stores

@@ -1,12 +1,14 @@
-ghost use Rattle.std.specs.Prelude.{◌≡◌, ◌≤◌, ◌++◌, ◌∷◌, [], ℕ, List, None, Some, IfOk, OnErr, OnOk, length, true};
+ghost use Rattle.std.specs.Prelude.{◌≡◌, ◌≤◌, ◌++◌, ◌∷◌, [], ℕ, List, None, Some, IfErr, IfOk, OnErr, OnOk, length, true};
 ghost use Rattle.std.specs.FinMap.{empty, entries, get, insert};
 ghost use Rattle.vl_drive.specs.Answers.{asked, begin_outcome, commit_outcome, handed_back};
 ghost use Rattle.vl_drive.specs.Answers.{is_commit_fault, is_read_fault, is_step_fault};
 ghost use Rattle.vl_drive.specs.Entries.{begin_entry, commit_entry, forget_entry};
 ghost use Rattle.vl_drive.specs.Knowing.{GoesAside, IsCounted, IsOwnTicket, Knows, Looks, Meets, Noted, Stepped};
 ghost use Rattle.vl_drive.specs.Knowing.{noted_by};
+ghost use Rattle.vl_drive.specs.Refused.{WasNotMerged};
 ghost use Rattle.vl_drive.specs.Small.{IsSmall};
 ghost use Rattle.vl_drive.specs.Steps.{history_by};
+ghost use Rattle.vl_drive.specs.declared.fails.StepFail.TheVariants as fails;
 ghost use Rattle.vl_engine_model.specs.Decides.{Answered};
 ghost use Rattle.vl_engine_model.specs.Rulings.Begin.{begin_ruling};
 ghost use Rattle.vl_engine_model.specs.Rulings.Commit.{commit_ruling};
@@ -107,6 +109,7 @@ pub trait Shop: Drop {
     /// Plans a merge, makes its tables beside the lock, and puts them in.
     fn merge<R: Wait>(&mut self, rt: &R, alloc: Global) -> Result<(), StepFail>
         ensures steps { GoesAside (knows self.old) (knows self.new) }
+        ensures refused { IfErr result (λ fail. fail ≡ fails.Refused → WasNotMerged (knows self.old) (knows self.new)) }
         ensures faults { IsCounted (is_step_fault result) (knows self.old) (knows self.new) };
 
     /// Picks a log with so many per cent of garbage, and moves one batch out of it.

@@ -191,6 +191,10 @@ fn worked<D: Silent, R: Wait>(
         Work::Draining => drains(rt, alloc, &mut session),
         Work::Merging => merges(rt, alloc, &mut session),
     };
+    // While a session is there, the store comes back.
+    let Err(store) = store.into_engine(rt) else {
+        return None;
+    };
     drop(session);
     let engine = store.into_engine(rt).ok()?;
     Some(works? && engine.number() == commits)

@@ -32,6 +32,7 @@ use Rattle.vl_engine_model.specs.declared.file_name.FileName.{FileName}
 use Rattle.vl_engine_model.specs.declared.job.Job.{Job}
 use Rattle.vl_oracle.specs.declared.begin_fail.BeginFail.{BeginFail}
 use Rattle.vl_oracle.specs.declared.begin_fail.BeginFail.TheVariants as begin
+use Rattle.vlstore.specs.Counting.{IsMoveCounted}
 use Rattle.vlstore.specs.Standing.{NeverFails}
 
 -- no call failed
@@ -73,6 +74,22 @@ module _ {D R W : Type 0} (faults : D → ℕ) (read_faults : R → ℕ) (write_
   move_unfailing old new looks looks_now log (Err (move.Disk file)) counts surely name at =
       none_rose (faults old) (faults new) (surely.disks old) (surely.disks new) counts.disk_rose
   move_unfailing old new looks looks_now log (Err (move.Damaged batch file place)) counts surely name at = no_fault at tt
+
+-- ---- what was counted
+
+module _ {D R : Type 0} (faults : D → ℕ) (read_faults : R → ℕ) where
+  pub move_counted : (old new : D) (looks looks_now : R) (log : ℕ) (r : Result ℕ MoveFail)
+      → MoveCounts log (faults old) (faults new) (read_faults looks) (read_faults looks_now) r → IsMoveCounted faults read_faults r
+  move_counted old new looks looks_now log (Ok count) counts = tt
+  move_counted old new looks looks_now log (Err (move.Halted file)) counts = tt
+  move_counted old new looks looks_now log (Err (move.Exhausted batch counter)) counts = tt
+  move_counted old new looks looks_now log (Err (move.Full batch length frame)) counts = tt
+  move_counted old new looks looks_now log (Err (move.NoMemory batch)) counts = tt
+  move_counted old new looks looks_now log (Err (move.Read file)) counts =
+      record { before = looks; after = looks_now; rose = counts.looks_rose.rose }
+  move_counted old new looks looks_now log (Err (move.Disk file)) counts =
+      record { before = old; after = new; rose = counts.disk_rose }
+  move_counted old new looks looks_now log (Err (move.Damaged batch file place)) counts = tt
 
 -- ---- what a failure is
 

@@ -1,5 +1,5 @@
 -- What takes a lease by a session comes to, by the laws of sequences over a shop.
-use Rattle.std.proofs.Common.{◌≡◌, ℕ, ◌+◌, ◌≤◌, true, false, List, [], ◌∷◌, refl, ap, sym, ◌∙◌}
+use Rattle.std.proofs.Common.{◌≡◌, ◌⊎◌, ℕ, ◌+◌, ◌≤◌, true, false, List, [], ◌∷◌, refl, ap, sym, ◌∙◌}
 use Rattle.std.specs.Prelude.{None, Option, Some}
 use Rattle.std.specs.FinMap.{empty, entries, get, get-empty}
 use Rattle.vl_drive.specs.Answers.{asked}
@@ -10,7 +10,6 @@ use Rattle.vl_engine_model.specs.Decides.{Answered, Outcome}
 use Rattle.vl_engine_model.specs.Rulings.Begin.{BeginAnswer, begin_ruling}
 use Rattle.vl_engine_model.specs.Rulings.Commit.{CommitAnswer, Conflict, Exhausted, Full, Transaction, commit_ruling}
 use Rattle.vl_engine_model.specs.Rulings.Forget.{forget_ruling}
-use Rattle.vl_engine_model.specs.declared.job.Job.{Job}
 use Rattle.vl_model.specs.History.{last_number, value_at}
 use Rattle.vl_model.specs.Keys.{Stored, Writes, key_cmp}
 use Rattle.vl_model.specs.Reads.{KeyRead, Read}
@@ -22,8 +21,9 @@ use Rattle.vl_sequence.specs.Takings.{last_value}
 use Rattle.vl_sequence.specs.declared.fails.SeqFail.{SeqFail}
 use Rattle.vl_sequence.specs.declared.fails.SeqFail.TheVariants as fail
 use Rattle.vlstore.proofs.Shopping.{begins_so, commits_so, forgets_so}
+use Rattle.vlstore.specs.Counting.{WasCounted}
 use Rattle.vlstore.specs.Entries.{begin_entry, commit_entry, end_entry}
-use Rattle.vlstore.specs.Knowing.{GoesOn, IsOwnJob, KeepsOwnMerge, Knows, Stepped}
+use Rattle.vlstore.specs.Knowing.{GoesOn, KeepsOwnMerge, Knows, Stepped}
 use Rattle.vlstore.specs.Sequences.{IsNoLease, IsNoNumber}
 use Rattle.vlstore.specs.Shops.{known_by}
 
@@ -41,44 +41,49 @@ keeps_on u v w first next job own =
 -- ---- refusals
 
 -- what is so by less is so by more
-pub no_lease : (full more_full : Type 0) (had more_had : Option Stored → Type 0) (asks more_asks : CommitAnswer → Type 0) (lease : ℕ)
+pub no_lease : (full more_full : Type 0) (had more_had : Option Stored → Type 0) (asks more_asks : CommitAnswer → Type 0)
+    (failed more_failed : Type 0) (lease : ℕ)
     (e : SeqFail) → (full → more_full) → ((value : Option Stored) → had value → more_had value)
-    → ((answer : CommitAnswer) → asks answer → more_asks answer) → IsNoLease full had asks lease e
-    → IsNoLease more_full more_had more_asks lease e
-no_lease full more_full had more_had asks more_asks lease (fail.Raced number) f v a is = (is.0, a (Conflict is.0 number) is.1)
-no_lease full more_full had more_had asks more_asks lease fail.Spent f v a is = (is.0, v is.0 is.1, is.2)
-no_lease full more_full had more_had asks more_asks lease (fail.Malformed len) f v a is = (is.0, v is.0 is.1, is.2)
-no_lease full more_full had more_had asks more_asks lease fail.TooMany f v a is = f is
-no_lease full more_full had more_had asks more_asks lease (fail.Full bytes frame) f v a is = a (Full bytes frame) is
-no_lease full more_full had more_had asks more_asks lease (fail.Exhausted counter) f v a is = a (Exhausted counter) is
-no_lease full more_full had more_had asks more_asks lease (fail.Halted name) f v a is = tt
-no_lease full more_full had more_had asks more_asks lease (fail.Disk name) f v a is = tt
-no_lease full more_full had more_had asks more_asks lease (fail.Damaged name place) f v a is = tt
-no_lease full more_full had more_had asks more_asks lease fail.NoMemory f v a is = tt
+    → ((answer : CommitAnswer) → asks answer → more_asks answer) → (failed → more_failed) → IsNoLease full had asks failed lease e
+    → IsNoLease more_full more_had more_asks more_failed lease e
+no_lease full more_full had more_had asks more_asks failed more_failed lease (fail.Raced number) f v a d is =
+    (is.0, a (Conflict is.0 number) is.1)
+no_lease full more_full had more_had asks more_asks failed more_failed lease fail.Spent f v a d is = (is.0, v is.0 is.1, is.2)
+no_lease full more_full had more_had asks more_asks failed more_failed lease (fail.Malformed len) f v a d is = (is.0, v is.0 is.1, is.2)
+no_lease full more_full had more_had asks more_asks failed more_failed lease fail.TooMany f v a d is = f is
+no_lease full more_full had more_had asks more_asks failed more_failed lease (fail.Full bytes frame) f v a d is = a (Full bytes frame) is
+no_lease full more_full had more_had asks more_asks failed more_failed lease (fail.Exhausted counter) f v a d is = a (Exhausted counter) is
+no_lease full more_full had more_had asks more_asks failed more_failed lease (fail.Halted name) f v a d is = tt
+no_lease full more_full had more_had asks more_asks failed more_failed lease (fail.Disk name) f v a d is = d is
+no_lease full more_full had more_had asks more_asks failed more_failed lease (fail.Damaged name place) f v a d is = tt
+no_lease full more_full had more_had asks more_asks failed more_failed lease fail.NoMemory f v a d is = tt
 
 -- so of a sequence's call
-pub no_number : (full : Type 0) (had : Option Stored → Type 0) (asks : CommitAnswer → Type 0) (v w : Knows) (key : List ℕ) (lease : ℕ)
+pub no_number : {D R : Type 0} (faults : D → ℕ) (read_faults : R → ℕ) (full : Type 0) (had : Option Stored → Type 0)
+    (asks : CommitAnswer → Type 0) (failed : Type 0) (v w : Knows) (key : List ℕ) (lease : ℕ)
     (e : SeqFail) → (full → v.tells ≡ true → WasFull (known_by w))
     → ((value : Option Stored) → had value → v.tells ≡ true → Finds (known_by v) (known_by w) key value)
     → ((answer : CommitAnswer) → asks answer → v.tells ≡ true → Asks (known_by v) (known_by w) key lease answer)
-    → IsNoLease full had asks lease e → IsNoNumber v w key lease e
-no_number full had asks v w key lease e f value answer is =
+    → (failed → WasCounted faults ⊎ WasCounted read_faults)
+    → IsNoLease full had asks failed lease e → IsNoNumber faults read_faults v w key lease e
+no_number faults read_faults full had asks failed v w key lease e f value answer counted is =
     no_lease full (v.tells ≡ true → WasFull (known_by w)) had (λ val. v.tells ≡ true → Finds (known_by v) (known_by w) key val) asks
-    (λ a. v.tells ≡ true → Asks (known_by v) (known_by w) key lease a) lease e f value answer is
+    (λ a. v.tells ≡ true → Asks (known_by v) (known_by w) key lease a) failed (WasCounted faults ⊎ WasCounted read_faults) lease e
+    f value answer counted is
 
 -- by the value that was read
-pub by_value : (had : Option Stored → Type 0) (lease : ℕ) (e : SeqFail) (value : Option Stored) → had value → IsValueCause value lease e
-    → IsNoLease ⊥ had (λ answer. ⊥) lease e
-by_value had lease (fail.Raced number) value read is = absurd is
-by_value had lease fail.Spent value read is = (value, read, is)
-by_value had lease (fail.Malformed len) value read is = (value, read, is)
-by_value had lease fail.TooMany value read is = absurd is
-by_value had lease (fail.Full bytes frame) value read is = absurd is
-by_value had lease (fail.Exhausted counter) value read is = absurd is
-by_value had lease (fail.Halted name) value read is = tt
-by_value had lease (fail.Disk name) value read is = tt
-by_value had lease (fail.Damaged name place) value read is = tt
-by_value had lease fail.NoMemory value read is = tt
+pub by_value : (had : Option Stored → Type 0) (failed : Type 0) (lease : ℕ) (e : SeqFail) (value : Option Stored) → had value
+    → IsValueCause value lease e → IsNoLease ⊥ had (λ answer. ⊥) failed lease e
+by_value had failed lease (fail.Raced number) value read is = absurd is
+by_value had failed lease fail.Spent value read is = (value, read, is)
+by_value had failed lease (fail.Malformed len) value read is = (value, read, is)
+by_value had failed lease fail.TooMany value read is = absurd is
+by_value had failed lease (fail.Full bytes frame) value read is = absurd is
+by_value had failed lease (fail.Exhausted counter) value read is = absurd is
+by_value had failed lease (fail.Halted name) value read is = tt
+by_value had failed lease (fail.Disk name) value read is = absurd is
+by_value had failed lease (fail.Damaged name place) value read is = tt
+by_value had failed lease fail.NoMemory value read is = tt
 
 -- ---- a new transaction
 

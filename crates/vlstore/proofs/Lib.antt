@@ -24,6 +24,7 @@ pub mod Planning
 pub mod Refused
 pub mod Sessions
 pub mod ShopKept
+pub mod ShopMerges
 pub mod ShopPicks
 pub mod ShopReads
 pub mod ShopStores

@@ -88,7 +88,7 @@ module _ {H : Type 0} (bytes : H → Option (List ℕ)) (ts : List (Table H)) wh
   each_is (es ∷ tabled) (t ∷ held) are = ((es, are.0), each_is tabled held are.1)
 
   -- of true tables none is damaged
-  none_bad : (tabled : List (List Entry)) → AreOf bytes ts tabled → (name : FileName) (place : ℕ)
+  pub none_bad : (tabled : List (List Entry)) → AreOf bytes ts tabled → (name : FileName) (place : ℕ)
       → MayFailOn bytes ts (faults.Damaged name place) → ⊥
   none_bad tabled are name place (i, t, there, named, bad) =
       let (es, of) = All-contains (λ (u : Table H). (es : List Entry) × IsOf bytes u es) ts t
@@ -102,7 +102,7 @@ none_rose before now was is rose =
     let more : Rose 0 0 = subst (λ (n : ℕ). Rose 0 n) is (subst (λ (n : ℕ). Rose n now) was rose) in
     let one : 1 ≤ 0 = more in omega arith
 
-none_risen : (before now : ℕ) → before ≡ 0 → now ≡ 0 → HasRisen before now → ⊥
+pub none_risen : (before now : ℕ) → before ≡ 0 → now ≡ 0 → HasRisen before now → ⊥
 none_risen before now was is risen = none_rose before now was is risen.rose
 
 -- the only fault that there may be

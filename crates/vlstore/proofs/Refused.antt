@@ -2,7 +2,6 @@
 use Rattle.std.proofs.Common.{◌≡◌, ◌⊎◌, ℕ, ◌+◌, ◌≤◌, List, [], ◌∷◌, ◌++◌, length, refl, sym, ap, ◌∙◌, subst, arith, inl, inr}
 use Rattle.std.proofs.lemmas.List.{length-append}
 use Rattle.std.specs.Prelude.{Bool, true, false, if◌then◌else◌, Option, None, Some, Result, Ok, Err, IfErr, IsErrAnd}
-use Rattle.vl_compact.specs.Laid.{AreBoth}
 use Rattle.vl_compact.specs.Progress.{FailsWith, KeepsAll, Leaves}
 use Rattle.vl_compact.specs.Reading.{FailsReading, MayWhere, counts}
 use Rattle.vl_compact.specs.Stops.{MayStopIn}
@@ -20,7 +19,6 @@ use Rattle.vl_engine.specs.declared.fails.MergeFail.{MergeFail}
 use Rattle.vl_engine_laws.specs.Represents.{file_of}
 use Rattle.vl_engine_model.specs.Decides.{Answered, Failed, Outcome}
 use Rattle.vl_engine_model.specs.Jobs.{Made, job_ended}
-use Rattle.vl_engine_model.specs.LockHistory.{last_layout}
 use Rattle.vl_engine_model.specs.Ruling.{Ruling, has_no_epoch, has_no_number, leaving}
 use Rattle.vl_engine_model.specs.Rulings.Fresh as fresh
 use Rattle.vl_engine_model.specs.Rulings.Fresh.{FreshAnswer, fresh_ruling, fresh_unless}
@@ -32,10 +30,9 @@ use Rattle.vl_engine_model.specs.declared.job.Job as laid_job
 use Rattle.vl_engine_model.specs.declared.layout.Layout.{Layout}
 use Rattle.vl_engine_model.specs.declared.lock_history.LockEntry.{LockEntry}
 use Rattle.vl_engine_model.specs.declared.lock_history.LockStep.TheVariants as steps
-use Rattle.vl_engine_model.specs.laws.LockHistoryLaws.{last_layout-append}
+use Rattle.vl_engine_model.specs.laws.LockHistoryLaws.{last_layout-append, none≢some}
 use Rattle.vl_model.specs.Conflicts.{Named}
 use Rattle.vl_model.specs.History.{History}
-use Rattle.vl_model.specs.Limits.{max_file_number}
 use Rattle.vl_model.specs.declared.counter.Counter.TheVariants as counters
 use Rattle.vl_model.specs.declared.counter.Counter.{Counter}
 use Rattle.vl_steps.specs.Merging.{FitsReaders, HasMerge, fresh_outcome, install_outcome}
@@ -49,14 +46,13 @@ use Rattle.vl_turn.specs.Entries.{with_entry}
 use Rattle.vl_version.specs.Bases as bases
 use Rattle.vl_version.specs.Sources.{tables_in}
 use Rattle.vl_version.specs.declared.base.Base.{Base}
-use Rattle.vlstore.proofs.Drawing.{some_is}
 use Rattle.vlstore.proofs.Making.{on_and_on}
 use Rattle.vlstore.proofs.Merged.{entry_behind, prefix_itself}
 use Rattle.vlstore.proofs.Stores.{prefix_on}
 use Rattle.vlstore.specs.Entries.{drawn_at, fresh_entry, install_entry}
 use Rattle.vlstore.specs.Knowing.{GoesOn, Knows, Stepped}
 use Rattle.vlstore.specs.Lists.{history_by, layout_by}
-use Rattle.vlstore.specs.Refused.{Between, FailsMaking, IsOutOfTables, IsRefused, StopsMaking, TookAll, WasDrawn, WasFailed, WasHalted, WasRefused}
+use Rattle.vlstore.specs.Refused.{Between, FailsMaking, IsOutOfTables, IsRefused, StopsMaking, WasDrawn, WasFailed, WasHalted, WasRefused}
 use Rattle.vlstore.specs.declared.locked.Origin.{Origin}
 use mathlib.Core.List.{IsPrefix}
 
@@ -183,14 +179,24 @@ install_halts file job made l h is = by l.halted is
     by (Some name) e =
         let so : install_ruled.Halted name ≡ install_ruled.Halted file = e in let same : name ≡ file = cc in ap Some same
 
-was_halted : (v w : Knows) (name : Name) (P : Layout → History → Type 0)
-    → ((l : Layout) (h : History) → P l h → l.halted ≡ Some (file_of name)) → Between v w P → WasHalted v w name
-was_halted v w name P so at = record {
-  before = at.before;
-  later = at.later;
-  within = at.within;
-  was = so (layout_by v.origin at.before) (history_by v.origin at.before) at.was;
-}
+was_halted : {A sure : Type 0} (v m i u : Knows) (name : Name) (ruling : Layout → History → Ruling A)
+    (entry : ℕ → Layout → History → Outcome A → Option LockEntry) (a : A) → GoesOn v m → GoesOn i u
+    → ((l : Layout) (h : History) → (ruling l h).answer ≡ a → l.halted ≡ Some (file_of name))
+    → Stepped sure m i ruling entry (Answered a) → WasHalted v u sure name
+was_halted v m i u name ruling entry a first last halts stepped =
+    let l = layout_by m.origin stepped.before in
+    let h = history_by m.origin stepped.before in
+    let was = halts l h (sym (stepped.answer a refl)) in
+    record {
+      was = wider (λ l h. l.halted ≡ Some (file_of name)) v m i u first last (record {
+        before = stepped.before;
+        later = stepped.later;
+        within = entry_behind stepped.before i.seen (entry m.session l h (Answered a)) stepped.seen;
+        was = was;
+      });
+      never = λ surely none.
+          none≢some (file_of name) (sym (stepped.runs surely (ap (λ (o : Origin). o.layout.halted) first.origin ∙ none)) ∙ was);
+    }
 
 -- ---- its tables weren't made
 
@@ -252,9 +258,8 @@ module _ {H R W : Type 0} (sure : Type 0) (w : Writers W) (bytes : H → Option 
       by : (f : StepFail) → Stepped sure m u fresh_ruling fresh_entry (fresh_outcome {W = W} {g = w} (Err f))
           → StopsMaking v u sure w bytes faults_of job key (of_step f)
       by (step.Halted name) at =
-          was_halted v u name (λ l h. (fresh_ruling l h).answer ≡ fresh.Halted (file_of name)) (fresh_halts (file_of name))
-          (wider (λ l h. (fresh_ruling l h).answer ≡ fresh.Halted (file_of name)) v m u u on (goes_nowhere u)
-          (answered_in m u fresh_ruling fresh_entry (fresh.Halted (file_of name)) at))
+          was_halted v m u u name fresh_ruling fresh_entry (fresh.Halted (file_of name)) on (goes_nowhere u)
+          (fresh_halts (file_of name)) at
       by (step.Exhausted counter) at = inl (wider (λ l h. (fresh_ruling l h).answer ≡ fresh.Exhausted counter) v m u u on (goes_nowhere u)
           (answered_in m u fresh_ruling fresh_entry (fresh.Exhausted counter) at))
       by step.NoMemory at = tt
@@ -333,8 +338,11 @@ module _ {H R W : Type 0} (sure : Type 0) (w : Writers W) (bytes : H → Option 
       drawn : (number : ℕ) → WasDrawn p m number → WasDrawn v u number
       drawn number = wider (λ l h. (fresh_ruling l h).answer ≡ fresh.Drawn number) v p m u first last
 
-      halted : (name : Name) → WasHalted p m name → WasHalted v u name
-      halted name = wider (λ l h. l.halted ≡ Some (file_of name)) v p m u first last
+      halted : (name : Name) → WasHalted p m sure name → WasHalted v u sure name
+      halted name why = record {
+        was = wider (λ l h. l.halted ≡ Some (file_of name)) v p m u first last why.was;
+        never = λ surely none. why.never surely (ap (λ (o : Origin). o.layout.halted) first.origin ∙ none);
+      }
 
       fails_so : (fault : ReadFault) → FailsToMake w bytes faults_of job key (WasDrawn p m) fault
           → FailsMaking v u sure w bytes faults_of fault
@@ -403,10 +411,8 @@ module _ {H R W : Type 0} (sure : Type 0) (w : Writers W) (bytes : H → Option 
       by : (f : InstallFail (Base H R) H W w) → Stepped sure m i ruling (install_entry planned made) (install_outcome (Err f))
           → IsRefused v u sure w bytes faults_of (of_install f)
       by (install.Halted name) at =
-          was_halted v u name (λ l h. (ruling l h).answer ≡ install_ruled.Halted (file_of name))
-          (install_halts (file_of name) planned made)
-          (wider (λ l h. (ruling l h).answer ≡ install_ruled.Halted (file_of name)) v m i u first last
-          (answered_in m i ruling (install_entry planned made) (install_ruled.Halted (file_of name)) at))
+          was_halted v m i u name ruling (install_entry planned made) (install_ruled.Halted (file_of name)) first last
+          (install_halts (file_of name) planned made) at
       by (install.Raced key number) at = (key, number, refused (install_ruled.Raced key number) at)
       by (install.Exhausted counter) at = inr (refused (install_ruled.Exhausted counter) at)
       by (install.NoMemory job) at = tt

@@ -1,5 +1,5 @@
 -- No disk in memory of the sure kind fails, nor what reads and writes its files.
-use Rattle.std.proofs.Common.{ℕ, refl}
+use Rattle.std.proofs.Common.{refl}
 use Rattle.vl_mem.specs.SureDisk.{faults_on, never_fails}
 use Rattle.vl_mem.specs.declared.steady_reader.SteadyReader.{SteadyReader}
 use Rattle.vl_mem.specs.declared.steady_writer.SteadyWriter.{SteadyWriter}

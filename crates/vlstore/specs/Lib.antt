@@ -1,10 +1,12 @@
 pub mod Closing
+pub mod Counting
 pub mod Entries
 pub mod Handing
 pub mod Knowing
 pub mod Lists
 pub mod Merges
 pub mod Merging
+pub mod Opening
 pub mod Refused
 pub mod Reopening
 pub mod Sequences

@@ -36,14 +36,15 @@ pub record Between (v w : Knows) (P : Layout → History → Type 0) : Type 0 wh
   pub was : P (layout_by v.origin before) (history_by v.origin before)
 
 module _ (v w : Knows) where
-  -- the store was halted at this file
-  abbrev pub WasHalted : Name → Type 0
-  WasHalted name = Between v w (λ l h. l.halted ≡ Some (file_of name))
+  -- The store was halted at this file. Over disks that are sure not to fail none is halted, unless it was when it was made.
+  pub record WasHalted (sure : Type 0) (name : Name) : Type 0 where
+    pub was : Between v w (λ l h. l.halted ≡ Some (file_of name))
+    pub never : sure → v.origin.layout.halted ≡ None → ⊥
 
   -- A step of the merge failed at this file, which halted the store. None does over disks that are sure not to fail.
   pub record WasFailed (sure : Type 0) (name : Name) : Type 0 where
     pub running : Between v w (λ l h. l.halted ≡ None)
-    pub halted : WasHalted name
+    pub halted : Between v w (λ l h. l.halted ≡ Some (file_of name))
     pub never : sure → ⊥
 
   -- a table with this number was given to it
@@ -74,7 +75,7 @@ module _ (v w : Knows) where
     where
       -- so it is with why the tables of a job weren't made behind this key
       abbrev pub StopsMaking : Job (Base H R) H W writers → (key : Option (List ℕ)) → MergeFail → Type 0
-      StopsMaking job key (merge.Halted name) = WasHalted name
+      StopsMaking job key (merge.Halted name) = WasHalted sure name
       StopsMaking job key (merge.Exhausted counter) = IsOutOfTables counter
       StopsMaking job key merge.Raced = ⊥
       StopsMaking job key merge.NoMemory = Unit {0}
@@ -97,7 +98,7 @@ module _ (v w : Knows) where
 
       -- so it is with why a whole merge was refused
       abbrev pub IsRefused : MergeFail → Type 0
-      IsRefused (merge.Halted name) = WasHalted name
+      IsRefused (merge.Halted name) = WasHalted sure name
       IsRefused (merge.Exhausted counter) = IsOutOfTables counter ⊎ WasRefused (install.Exhausted counter)
       IsRefused merge.Raced = WasRaced
       IsRefused merge.NoMemory = Unit {0}

@@ -13,13 +13,15 @@
 //! whole list.
 //!
 //! What a session began goes back to it, while it lives. Where the disk didn't tell its bytes when the store was
-//! made, as a folder doesn't, nothing is claimed of answers. Nowhere is it claimed that a turn comes.
+//! made, as a folder doesn't, of answers is claimed only that what failed was counted. Nowhere is it claimed that a
+//! turn comes.
 #![tactic(auto)]
 
 mod fails;
 mod laws;
 mod locked;
 mod mark;
+mod marks;
 mod note;
 mod sequence;
 mod session;

@@ -98,7 +98,7 @@ impl<D: Disk + Drop> Sequence<D> {
             self.old.next self.old.end self.new.next self.new.end) }
         ensures refused { OnErr result ((self.new.next ≡ self.old.next) × (self.new.end ≡ self.old.end)) }
         ensures cause { IfErr result
-            (IsNoNumber self.old.session self.new.session self.old.key self.old.lease) }
+            (IsNoNumber D.faults (λ r. D.Reader.faults r) self.old.session self.new.session self.old.key self.old.lease) }
         // What is left of a lease is never refused.
         ensures left { self.old.next < self.old.end → IsOk result }
         // Where the disk told its bytes, nothing that was begun is open.

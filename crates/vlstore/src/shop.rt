@@ -5,7 +5,6 @@ mod calls;
 mod collecting;
 mod ends;
 mod hand;
-mod marks;
 mod reopen;
 mod sure;
 

@@ -1,5 +1,6 @@
 //! A store: a lock round an engine, and its sessions.
 
+mod beginning;
 mod close;
 mod open;
 

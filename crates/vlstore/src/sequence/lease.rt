@@ -1,15 +1,17 @@
 //! A lease is taken by a transaction of its own.
-ghost use Rattle.std.specs.Prelude.{◌≡◌, ◌≢◌, ◌≤◌, ◌+◌, ◌++◌, ◌∷◌, [], ℕ, List, Some, IfErr, IfOk, OnErr, OnOk, false, is_ok, length, true};
+ghost use Rattle.std.specs.Prelude.{◌≡◌, ◌≢◌, ◌≤◌, ◌+◌, ◌++◌, ◌∷◌, [], ℕ, Err, List, Option, Some, IfErr, IfOk, OnErr, OnOk, false, is_ok, length, true};
 ghost use Rattle.std.specs.FinMap.{empty, entries};
 ghost use Rattle.vl_engine_laws.specs.Represents.{file_of};
 ghost use Rattle.vl_model.specs.History.{History, value_at};
-ghost use Rattle.vl_model.specs.Keys.{is_key_length};
+ghost use Rattle.vl_model.specs.Keys.{Stored, is_key_length};
 ghost use Rattle.vl_model.specs.Reads.{KeyRead, Read};
+ghost use Rattle.vl_reads.specs.Reading.{ReadFailed};
 ghost use Rattle.vl_reads.specs.Sees.{Sees, asked};
 ghost use Rattle.vl_reads.specs.declared.fails.ReadFail.TheVariants as fails;
 ghost use Rattle.vl_sequence.specs.Causes.{IsRuled, WasFull};
 ghost use Rattle.vl_sequence.specs.Leases.{number_in};
 ghost use Rattle.vl_sequence.specs.Sequences.{Begins, Closes, LeavesNothing, Puts, TakesLease, lease_writes, most_number};
+ghost use Rattle.vlstore.specs.Counting.{WasCounted};
 ghost use Rattle.vlstore.specs.Knowing.{GoesOn, IsOwnTicket, KeepsOwnMerge};
 ghost use Rattle.vlstore.specs.Lists.{history_by};
 ghost use Rattle.vlstore.specs.Sequences.{IsNoLease, IsNoNumber};
@@ -39,7 +41,8 @@ pub(super) fn take_lease<D: Disk, R: Wait>(
     ensures took { session.old.tells ≡ true → IfOk result (λ first.
         TakesLease (known_by session.old) (known_by session.new) key.now first (first + lease)) }
     ensures nothing { session.old.tells ≡ true → LeavesNothing (known_by session.old) (known_by session.new) }
-    ensures cause { IfErr result (IsNoNumber session.old session.new key.now lease) }
+    ensures cause { IfErr result
+        (IsNoNumber D.faults (λ r. D.Reader.faults r) session.old session.new key.now lease) }
 {
     reads_without_conflict_stay_explained();
     let mut txn = begin(rt, session)?;
@@ -70,7 +73,7 @@ fn begin<D: Disk, R: Wait>(
         → IfOk result (λ txn. Sees D.Held.bytes txn (history_by session.new.origin session.new.seen) []) }
     ensures nothing { session.old.tells ≡ true → OnErr result (LeavesNothing (known_by session.old) (known_by session.new)) }
     ensures cause { (lease : ℕ) → IfErr result
-        (IsNoLease (session.old.tells ≡ true → WasFull (known_by session.new)) (λ _. ⊥) (λ _. ⊥) lease) }
+        (IsNoLease (session.old.tells ≡ true → WasFull (known_by session.new)) (λ _. ⊥) (λ _. ⊥) ⊥ lease) }
 {
     match session.begin(rt) {
         Ok(txn) => Ok(txn),
@@ -96,9 +99,9 @@ fn raise<H: HeldFile, F: Reader<Held = H> + Drop>(
     ensures number { txn.new.number ≡ txn.old.number }
     ensures writes { IfOk result (λ first. txn.new.writes ≡ lease_writes key.now (first + lease)) }
     ensures fits { IfOk result (λ first. first + lease ≤ most_number) }
-    // It is refused by a value that was read, which is the history's that the transaction sees.
+    // It is refused by a value that was read, which is the history's that the transaction sees. What failed was counted.
     ensures cause { IfErr result (IsNoLease ⊥ (λ value. (h : History) (reads : List Read) → Sees H.bytes txn.old h reads
-        → value ≡ value_at h txn.old.number key.now) (λ _. ⊥) lease) }
+        → value ≡ value_at h txn.old.number key.now) (λ _. ⊥) (WasCounted F.faults) lease) }
 {
     let value = match txn.get(key) {
         Ok(value) => value,
@@ -129,7 +132,7 @@ fn commit<D: Disk, R: Wait>(
         → OnOk result (Puts (known_by session.old) (known_by session.new) txn.ticket txn.number reads txn.writes) }
     ensures cause { (lease : ℕ) → IfErr result (IsNoLease ⊥ (λ _. ⊥) (λ answer. session.old.tells ≡ true
         → (h : History) (reads : List Read) → Sees D.Held.bytes txn h reads
-        → IsRuled (origin_of session.old.origin) session.old.seen session.new.seen (asked txn reads) answer) lease) }
+        → IsRuled (origin_of session.old.origin) session.old.seen session.new.seen (asked txn reads) answer) (WasCounted D.faults) lease) }
 {
     match session.commit(rt, txn) {
         Ok(Done::At(_)) => Ok(()),
@@ -167,7 +170,7 @@ fn give_up<D: Disk, R: Wait>(rt: &R, session: &mut Session<D>, txn: Txn<D::Held,
 fn not_read(fail: ReadFail) -> SeqFail
     requires some { fail ≢ fails.EmptyKey }
     requires short { fail ≢ fails.KeyTooLong }
-    ensures { (lease : ℕ) → IsNoLease ⊥ (λ _. ⊥) (λ _. ⊥) lease result }
+    ensures { (lease : ℕ) → IsNoLease ⊥ (λ _. ⊥) (λ _. ⊥) (ReadFailed {T = Option Stored} (Err fail)) lease result }
 {
     match fail {
         ReadFail::NoMemory => SeqFail::NoMemory,

@@ -46,14 +46,7 @@ impl<D: Disk> Session<D> {
         let locked = turn.value();
         let answer = locked.engine.begin();
         let enters = has_begun(&answer);
-        finish::<D, Brand, R, (), Result<Txn<D::Held, Cached<D::Reader>>, BeginFail>>(
-            lock,
-            rt,
-            turn,
-            &(),
-            &answer,
-            enters,
-        );
+        finish::<_, Brand, _, _, _>(lock, rt, turn, &(), &answer, enters);
         answer
     }
 
@@ -76,14 +69,7 @@ impl<D: Disk> Session<D> {
         let locked = turn.value();
         let answer = locked.engine.view();
         let enters = is_begun(&answer);
-        finish::<D, Brand, R, (), Result<View<D::Held, Cached<D::Reader>>, BeginFail>>(
-            lock,
-            rt,
-            turn,
-            &(),
-            &answer,
-            enters,
-        );
+        finish::<_, Brand, _, _, _>(lock, rt, turn, &(), &answer, enters);
         answer
     }
 }

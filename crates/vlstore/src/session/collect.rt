@@ -33,14 +33,7 @@ impl<D: Disk> Session<D> {
         let mut turn = lock.take(rt, &mut self.token);
         let locked = turn.value();
         let answer = locked.engine.stats();
-        finish::<D, Brand, R, (), Result<Vec<SegmentStat>, NoMemory>>(
-            lock,
-            rt,
-            turn,
-            &(),
-            &answer,
-            false,
-        );
+        finish::<_, Brand, _, _, _>(lock, rt, turn, &(), &answer, false);
         answer
     }
 
@@ -69,9 +62,7 @@ impl<D: Disk> Session<D> {
         let locked = turn.value();
         let answer = locked.engine.pick(percent);
         let enters = answer.is_ok();
-        finish::<D, Brand, R, u8, Result<Pass<Base<D::Held, D::Reader>, D::Held>, PickFail>>(
-            lock, rt, turn, &percent, &answer, enters,
-        );
+        finish::<_, Brand, _, _, _>(lock, rt, turn, &percent, &answer, enters);
         answer
     }
 
@@ -88,6 +79,6 @@ impl<D: Disk> Session<D> {
         let mut turn = lock.take(rt, &mut self.token);
         let locked = turn.value();
         locked.engine.end_pass(pass);
-        finish::<D, Brand, R, (), ()>(lock, rt, turn, &(), &(), true);
+        finish::<_, Brand, _, _, _>(lock, rt, turn, &(), &(), true);
     }
 }

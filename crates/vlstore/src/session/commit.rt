@@ -1,6 +1,6 @@
 ghost use Rattle.std.specs.Prelude.{◌≡◌, ℕ, is_some, true, List, Some};
 ghost use Rattle.std.specs.FinMap.{entries};
-ghost use Rattle.vl_steps.specs.Answers.{commit_outcome, handed_back};
+ghost use Rattle.vl_steps.specs.Answers.{CommitFailed, commit_outcome, handed_back};
 ghost use Rattle.vl_reads.specs.Sees.{asked};
 ghost use Rattle.vl_reads.specs.declared.txn.Txn.{Txn};
 ghost use Rattle.vl_engine_model.specs.Rulings.Commit.{commit_ruling};
@@ -10,6 +10,7 @@ ghost use Rattle.vl_engine_model.specs.declared.layout.Layout.{Layout};
 ghost use Rattle.vl_engine_model.specs.declared.lock_history.LockStep.{LockStep};
 ghost use Rattle.vl_model.specs.History.{History};
 ghost use Rattle.vl_model.specs.declared.change.Change.{Change};
+ghost use Rattle.vlstore.specs.Counting.{WasCounted};
 ghost use Rattle.vlstore.specs.Entries.{commit_done, commit_entry, done_by};
 ghost use Rattle.vlstore.specs.Handing.{IsOwnTxn};
 ghost use Rattle.vlstore.specs.Knowing.{GoesOn, KeepsOwnMerge, Stepped, WhereTold};
@@ -45,6 +46,8 @@ impl<D: Disk> Session<D> {
             (λ l h. commit_ruling l h (asked txn reads)) (commit_entry txn.ticket (entries txn.writes))
             (commit_outcome result) }
         ensures back { (back : Txn D.Held _) → handed_back result ≡ Some back → back ≡ txn }
+        // Over any disk, it fails only where the disk counted that.
+        ensures cause { CommitFailed result → WasCounted D.faults }
     {
         let asked = Snapshot::of(&txn);
         let lock = &*self.lock;
@@ -52,13 +55,7 @@ impl<D: Disk> Session<D> {
         let locked = turn.value();
         let answer = locked.engine.commit(txn);
         let enters = has_ended(&answer);
-        finish::<
-            D,
-            Brand,
-            R,
-            Snapshot<Txn<D::Held, Cached<D::Reader>>>,
-            Result<Done, CommitFail<D::Held, Cached<D::Reader>>>,
-        >(lock, rt, turn, &asked, &answer, enters);
+        finish::<_, Brand, _, _, _>(lock, rt, turn, &asked, &answer, enters);
         answer
     }
 }

@@ -31,14 +31,7 @@ impl<D: Disk> Session<D> {
         let mut turn = lock.take(rt, &mut self.token);
         let locked = turn.value();
         locked.engine.forget(txn);
-        finish::<D, Brand, R, Snapshot<Txn<D::Held, Cached<D::Reader>>>, ()>(
-            lock,
-            rt,
-            turn,
-            &asked,
-            &(),
-            true,
-        );
+        finish::<_, Brand, _, _, _>(lock, rt, turn, &asked, &(), true);
     }
 
     /// Ends a view of this session. It wants no memory.
@@ -55,13 +48,6 @@ impl<D: Disk> Session<D> {
         let mut turn = lock.take(rt, &mut self.token);
         let locked = turn.value();
         locked.engine.release(view);
-        finish::<D, Brand, R, Snapshot<View<D::Held, Cached<D::Reader>>>, ()>(
-            lock,
-            rt,
-            turn,
-            &asked,
-            &(),
-            true,
-        );
+        finish::<_, Brand, _, _, _>(lock, rt, turn, &asked, &(), true);
     }
 }

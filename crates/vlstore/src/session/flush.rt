@@ -1,6 +1,7 @@
 ghost use Rattle.std.specs.Prelude.{◌≡◌, true};
-ghost use Rattle.vl_steps.specs.Stepping.{step_outcome};
+ghost use Rattle.vl_steps.specs.Stepping.{StepFailed, step_outcome};
 ghost use Rattle.vl_engine_model.specs.Rulings.Flush.{flush_ruling};
+ghost use Rattle.vlstore.specs.Counting.{WasCounted};
 ghost use Rattle.vlstore.specs.Entries.{flush_entry};
 ghost use Rattle.vlstore.specs.Knowing.{GoesOn, KeepsOwnMerge, Stepped};
 ghost use Rattle.vlstore.specs.Standing.{NeverFails};
@@ -22,20 +23,15 @@ impl<D: Disk> Session<D> {
         ensures steps { self.old.tells ≡ true
             → Stepped (NeverFails D.faults D.Reader.faults D.Writer.faults) self.old self.new
             flush_ruling flush_entry (step_outcome result) }
+        // Over any disk, it fails only where the disk counted that.
+        ensures cause { StepFailed result → WasCounted D.faults }
     {
         let lock = &*self.lock;
         let mut turn = lock.take(rt, &mut self.token);
         let locked = turn.value();
         let answer = locked.engine.flush();
         let enters = has_stepped(&answer);
-        finish::<D, Brand, R, (), Result<Option<u32>, StepFail>>(
-            lock,
-            rt,
-            turn,
-            &(),
-            &answer,
-            enters,
-        );
+        finish::<_, Brand, _, _, _>(lock, rt, turn, &(), &answer, enters);
         answer
     }
 }

@@ -2,10 +2,12 @@ ghost use Rattle.std.specs.Prelude.{◌≡◌, true, IfOk, OnOk, Some, is_some};
 ghost use Rattle.vl_compact.specs.Progress.{HasRoom};
 ghost use Rattle.vl_disk.specs.DiskState.{new_file};
 ghost use Rattle.vl_steps.specs.Drawing.{IsSameJob};
+ghost use Rattle.vl_steps.specs.Stepping.{StepFailed};
 ghost use Rattle.vl_steps.specs.Merging.{fresh_outcome};
 ghost use Rattle.vl_engine_model.specs.Rulings.Fresh.{fresh_ruling};
 ghost use Rattle.vl_engine_model.specs.declared.layout.Layout.{Layout};
 ghost use Rattle.vl_engine_model.specs.declared.lock_history.LockStep.{LockStep};
+ghost use Rattle.vlstore.specs.Counting.{WasCounted};
 ghost use Rattle.vlstore.specs.Entries.{done_by, fresh_done, fresh_entry};
 ghost use Rattle.vlstore.specs.Handing.{IsLentTo, IsUnderWayIn};
 ghost use Rattle.vlstore.specs.Knowing.{GoesOn, Stepped};
@@ -41,20 +43,15 @@ impl<D: Disk> Session<D> {
         ensures under_way { IsUnderWayIn self.new D.Writer.Writer D.Held.bytes job.new }
         ensures lent { IfOk result (IsLentTo self.new D.Writer.Writer D.Held.bytes job.new) }
         ensures empty { self.old.tells ≡ true → IfOk result (λ file. D.Writer.Writer.file file.writer ≡ Some new_file) }
+        // Over any disk, it fails only where the disk counted that.
+        ensures cause { StepFailed result → WasCounted D.faults }
     {
         let lock = &*self.lock;
         let mut turn = lock.take(rt, &mut self.token);
         let locked = turn.value();
         let answer = locked.engine.fresh(job);
         let enters = has_drawn(&answer);
-        finish::<D, Brand, R, (), Result<Lent<D::Writer>, StepFail>>(
-            lock,
-            rt,
-            turn,
-            &(),
-            &answer,
-            enters,
-        );
+        finish::<_, Brand, _, _, _>(lock, rt, turn, &(), &answer, enters);
         answer
     }
 }

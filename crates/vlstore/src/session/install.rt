@@ -1,6 +1,7 @@
 ghost use Rattle.std.specs.Prelude.{◌≡◌, true, Some, is_some};
 ghost use Rattle.std.specs.Option.{ForSome};
 ghost use Rattle.vl_compact.specs.Progress.{made_of};
+ghost use Rattle.vl_steps.specs.Installing.{InstallFailed};
 ghost use Rattle.vl_steps.specs.Merging.{install_outcome};
 ghost use Rattle.vl_engine_model.specs.Rulings.Install.{install_ruling};
 ghost use Rattle.vl_engine_model.specs.Jobs.{Made, job_ended};
@@ -8,6 +9,7 @@ ghost use Rattle.vl_engine_model.specs.declared.job.Job as laid_job;
 ghost use Rattle.vl_engine_model.specs.declared.layout.Layout.{Layout};
 ghost use Rattle.vl_engine_model.specs.declared.lock_history.LockStep.TheVariants.{JobEnded};
 ghost use Rattle.vl_model.specs.History.{History};
+ghost use Rattle.vlstore.specs.Counting.{WasCounted};
 ghost use Rattle.vlstore.specs.Entries.{done_by, install_entry};
 ghost use Rattle.vlstore.specs.Handing.{IsHandedInto, job_back};
 ghost use Rattle.vlstore.specs.Knowing.{GoesOn, IsOwnJob, Stepped};
@@ -43,6 +45,8 @@ impl<D: Disk> Session<D> {
         // It may be handed in again, or abandoned.
         ensures back { ForSome (job_back result) (λ back. back ≡ job) }
         ensures again { ForSome (job_back result) (IsHandedInto self.new D.Writer.Writer D.Held.bytes) }
+        // Over any disk, it fails only where the disk counted that.
+        ensures cause { InstallFailed result → WasCounted D.faults }
     {
         let asked = Snapshot::of(&job);
         let lock = &*self.lock;
@@ -50,13 +54,7 @@ impl<D: Disk> Session<D> {
         let locked = turn.value();
         let answer = locked.engine.install(job);
         let enters = has_come(&answer);
-        finish::<
-            D,
-            Brand,
-            R,
-            Snapshot<Job<Base<D::Held, D::Reader>, D::Held, D::Writer>>,
-            Result<(), InstallFail<Base<D::Held, D::Reader>, D::Held, D::Writer>>,
-        >(lock, rt, turn, &asked, &answer, enters);
+        finish::<_, Brand, _, _, _>(lock, rt, turn, &asked, &answer, enters);
         answer
     }
 }

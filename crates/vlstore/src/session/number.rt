@@ -19,7 +19,7 @@ impl<D: Disk> Session<D> {
         let mut turn = lock.take(rt, &mut self.token);
         let locked = turn.value();
         let answer = locked.engine.number();
-        finish::<D, Brand, R, (), u64>(lock, rt, turn, &(), &answer, false);
+        finish::<_, Brand, _, _, _>(lock, rt, turn, &(), &answer, false);
         answer
     }
 }

@@ -49,13 +49,7 @@ impl<D: Disk> Session<D> {
         let locked = turn.value();
         let answer = locked.engine.plan();
         let enters = is_planned(&answer);
-        finish::<
-            D,
-            Brand,
-            R,
-            (),
-            Result<Option<Job<Base<D::Held, D::Reader>, D::Held, D::Writer>>, NoMemory>,
-        >(lock, rt, turn, &(), &answer, enters);
+        finish::<_, Brand, _, _, _>(lock, rt, turn, &(), &answer, enters);
         answer
     }
 
@@ -81,13 +75,7 @@ impl<D: Disk> Session<D> {
         let locked = turn.value();
         let answer = locked.engine.drain(segment);
         let enters = is_planned(&answer);
-        finish::<
-            D,
-            Brand,
-            R,
-            u32,
-            Result<Option<Job<Base<D::Held, D::Reader>, D::Held, D::Writer>>, NoMemory>,
-        >(lock, rt, turn, &segment, &answer, enters);
+        finish::<_, Brand, _, _, _>(lock, rt, turn, &segment, &answer, enters);
         answer
     }
 
@@ -106,14 +94,7 @@ impl<D: Disk> Session<D> {
         let mut turn = lock.take(rt, &mut self.token);
         let locked = turn.value();
         let answer = locked.engine.reader();
-        finish::<D, Brand, R, (), Result<JobReader<D::Reader, BlockReader<D::Reader>>, NoMemory>>(
-            lock,
-            rt,
-            turn,
-            &(),
-            &answer,
-            false,
-        );
+        finish::<_, Brand, _, _, _>(lock, rt, turn, &(), &answer, false);
         answer
     }
 
@@ -135,14 +116,7 @@ impl<D: Disk> Session<D> {
         let mut turn = lock.take(rt, &mut self.token);
         let locked = turn.value();
         locked.engine.abandon(job);
-        finish::<D, Brand, R, Snapshot<Job<Base<D::Held, D::Reader>, D::Held, D::Writer>>, ()>(
-            lock,
-            rt,
-            turn,
-            &asked,
-            &(),
-            true,
-        );
+        finish::<_, Brand, _, _, _>(lock, rt, turn, &asked, &(), true);
     }
 }
 

@@ -11,6 +11,7 @@ ghost use Rattle.vl_engine_model.specs.declared.file_name.FileName.{FileName};
 ghost use Rattle.vl_engine_model.specs.declared.layout.Layout.{Layout};
 ghost use Rattle.vl_engine_model.specs.declared.lock_history.LockStep.{LockStep};
 ghost use Rattle.vl_model.specs.History.{History};
+ghost use Rattle.vlstore.specs.Counting.{IsMoveCounted};
 ghost use Rattle.vlstore.specs.Entries.{done_by, move_done, relocate_entry};
 ghost use Rattle.vlstore.specs.Handing.{HasLasted};
 ghost use Rattle.vlstore.specs.Knowing.{GoesOn, KeepsOwnMerge, Stepped, WhereTold};
@@ -47,6 +48,8 @@ impl<D: Disk> Session<D> {
             (λ l h. relocate_ruling l h p batch) (relocate_entry p batch) (move_outcome result) }
         ensures undamaged { self.old.tells ≡ true → IsDamaged result → ⊥ }
         ensures back { (back : List Candidate) → batch_back result ≡ Some back → back ≡ batch }
+        // Over any disk, it fails only where that was counted.
+        ensures cause { IsMoveCounted D.faults (λ r. D.Reader.faults r) result }
     {
         let segment = pass.segment();
         let moved = Snapshot::of(&batch);
@@ -56,9 +59,7 @@ impl<D: Disk> Session<D> {
         let locked = turn.value();
         let answer = move_now(&mut locked.engine, pass, batch);
         let enters = has_moved(&answer);
-        finish::<D, Brand, R, (u32, Snapshot<Batch>), Result<u32, MoveFail>>(
-            lock, rt, turn, &asked, &answer, enters,
-        );
+        finish::<_, Brand, _, _, _>(lock, rt, turn, &asked, &answer, enters);
         answer
     }
 }
@@ -81,6 +82,7 @@ fn move_now<D: Disk>(
     ensures undamaged { (h : History) (l : Layout) → StandsFor D.Held.bytes engine.old.core h l
         → Lasts D.Held.bytes pass.now.log l → AreThere D.Held.bytes pass.now.log batch → IsDamaged result → ⊥ }
     ensures back { (back : List Candidate) → batch_back result ≡ Some back → back ≡ batch }
+    ensures counted { IsMoveCounted D.faults (λ r. D.Reader.faults r) result }
     ensures merging { MoveNotes engine.old.core.back.epoch engine.old.merging engine.new.merging result }
 {
     match engine.reader() {

@@ -1,8 +1,9 @@
 ghost use Rattle.std.specs.Prelude.{◌≡◌, is_some, true};
-ghost use Rattle.vl_steps.specs.Stepping.{step_outcome};
+ghost use Rattle.vl_steps.specs.Stepping.{StepFailed, step_outcome};
 ghost use Rattle.vl_engine_model.specs.Rulings.Rotate.{rotate_ruling};
 ghost use Rattle.vl_engine_model.specs.declared.layout.Layout.{Layout};
 ghost use Rattle.vl_engine_model.specs.declared.lock_history.LockStep.{LockStep};
+ghost use Rattle.vlstore.specs.Counting.{WasCounted};
 ghost use Rattle.vlstore.specs.Entries.{done_by, rotate_entry, step_done};
 ghost use Rattle.vlstore.specs.Knowing.{GoesOn, KeepsOwnMerge, Stepped};
 ghost use Rattle.vlstore.specs.Standing.{NeverFails};
@@ -25,20 +26,15 @@ impl<D: Disk> Session<D> {
         ensures steps { self.old.tells ≡ true
             → Stepped (NeverFails D.faults D.Reader.faults D.Writer.faults) self.old self.new
             rotate_ruling rotate_entry (step_outcome result) }
+        // Over any disk, it fails only where the disk counted that.
+        ensures cause { StepFailed result → WasCounted D.faults }
     {
         let lock = &*self.lock;
         let mut turn = lock.take(rt, &mut self.token);
         let locked = turn.value();
         let answer = locked.engine.rotate();
         let enters = has_stepped(&answer);
-        finish::<D, Brand, R, (), Result<Option<u32>, StepFail>>(
-            lock,
-            rt,
-            turn,
-            &(),
-            &answer,
-            enters,
-        );
+        finish::<_, Brand, _, _, _>(lock, rt, turn, &(), &answer, enters);
         answer
     }
 }

@@ -1,8 +1,9 @@
 ghost use Rattle.std.specs.Prelude.{◌≡◌, ℕ, is_some, true};
-ghost use Rattle.vl_space.specs.Sweeping.{sweep_outcome};
+ghost use Rattle.vl_space.specs.Sweeping.{SweepFailed, sweep_outcome};
 ghost use Rattle.vl_engine_model.specs.Rulings.Sweep.{sweep_ruling};
 ghost use Rattle.vl_engine_model.specs.declared.layout.Layout.{Layout};
 ghost use Rattle.vl_engine_model.specs.declared.lock_history.LockStep.{LockStep};
+ghost use Rattle.vlstore.specs.Counting.{WasCounted};
 ghost use Rattle.vlstore.specs.Entries.{done_by, sweep_done, sweep_entry};
 ghost use Rattle.vlstore.specs.Knowing.{GoesOn, KeepsOwnMerge, Stepped};
 ghost use Rattle.vlstore.specs.Standing.{NeverFails};
@@ -27,6 +28,8 @@ impl<D: Disk> Session<D> {
         ensures steps { self.old.tells ≡ true → (gone : ℕ)
             × Stepped (NeverFails D.faults D.Reader.faults D.Writer.faults) self.old self.new
             sweep_ruling (sweep_entry gone) (sweep_outcome result) }
+        // Over any disk, it fails only where the disk counted that.
+        ensures cause { SweepFailed result → WasCounted D.faults }
     {
         let lock = &*self.lock;
         let mut turn = lock.take(rt, &mut self.token);
@@ -34,9 +37,7 @@ impl<D: Disk> Session<D> {
         let asked = Snapshot::of(&locked.engine);
         let answer = locked.engine.sweep();
         let enters = has_swept(&answer);
-        finish::<D, Brand, R, Snapshot<Engine<D>>, Result<u64, SweepFail>>(
-            lock, rt, turn, &asked, &answer, enters,
-        );
+        finish::<_, Brand, _, _, _>(lock, rt, turn, &asked, &answer, enters);
         answer
     }
 }

@@ -1,6 +1,8 @@
 //! Answers of calls that can't fail, as a shop gives them.
-ghost use Rattle.std.specs.Prelude.{◌≡◌, IsOk, Ok, Option, false};
+ghost use Rattle.std.specs.Prelude.{◌≡◌, ◌≢◌, IfErr, IsErrAnd, IsOk, Ok, Option, false};
 ghost use Rattle.vl_drive.specs.Answers as drive;
+ghost use Rattle.vl_drive.specs.declared.fails.StepFail.TheVariants as fails;
+ghost use Rattle.vl_engine.specs.declared.fails.MergeFail.TheVariants as merge;
 ghost use Rattle.vl_steps.specs.Answers.{begin_outcome, commit_outcome, handed_back};
 ghost use Rattle.vl_reads.specs.declared.txn.Txn.{Txn};
 ghost use Rattle.vl_model.specs.Keys.{Stored};
@@ -8,7 +10,9 @@ ghost use Rattle.vlstore.specs.Shops.{IsFaultyCommit, IsFaultyStep, IsFaultySwee
 
 use std::alloc::AllocError;
 use vl_disk::HeldFile;
-use vl_engine::{BeginFail, CommitFail, Done, ReadFail, SetFail, StepFail, SweepFail, Txn};
+use vl_engine::{
+    BeginFail, CommitFail, Done, MergeFail, ReadFail, SetFail, StepFail, SweepFail, Txn,
+};
 use vl_model::Value;
 
 // A begin's answer.
@@ -92,6 +96,24 @@ pub(super) fn as_step(answer: Result<Option<u32>, StepFail>) -> Result<(), vl_dr
         Err(StepFail::Exhausted(_)) => Err(vl_drive::StepFail::Refused),
         Err(StepFail::NoMemory) => Err(vl_drive::StepFail::NoMemory),
         Err(StepFail::Halted { .. } | StepFail::Disk { .. }) => unreachable!(),
+    }
+}
+
+// A merge's answer.
+pub(super) fn as_merge(answer: Result<Option<u64>, MergeFail>) -> Result<(), vl_drive::StepFail>
+    ensures faults { drive.is_step_fault result ≡ false }
+    ensures refused { IfErr result (λ fail. fail ≡ fails.Refused → IsErrAnd answer (λ why. why ≢ merge.NoMemory)) }
+{
+    match answer {
+        Ok(_) => Ok(()),
+        Err(MergeFail::NoMemory) => Err(vl_drive::StepFail::NoMemory),
+        Err(
+            MergeFail::Halted { .. }
+            | MergeFail::Exhausted(_)
+            | MergeFail::Raced
+            | MergeFail::Disk { .. }
+            | MergeFail::Damaged { .. },
+        ) => Err(vl_drive::StepFail::Refused),
     }
 }
 

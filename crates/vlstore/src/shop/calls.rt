@@ -1,6 +1,6 @@
 //! The calls of a shop.
 use super::SureSession;
-use super::answers::{as_begin, as_commit, as_read, as_set, as_step, as_sweep};
+use super::answers::{as_begin, as_commit, as_merge, as_read, as_set, as_step, as_sweep};
 use super::collecting::collect;
 use crate::note::Note;
 use std::alloc::{AllocError, Global};
@@ -8,7 +8,7 @@ use std::sync::Wait;
 use vl_cache::Cached;
 use vl_disk::Disk;
 use vl_drive::Shop;
-use vl_engine::{MergeFail, Txn};
+use vl_engine::Txn;
 use vl_mem::SureDisk;
 use vl_model::Value;
 
@@ -92,12 +92,7 @@ impl Shop for SureSession<SureDisk> {
         let answer = self.session.merge(rt, alloc);
         // All that the session did is among what it has seen.
         let _ = self.session.number(rt);
-        match answer {
-            Ok(_) => Ok(()),
-            Err(MergeFail::NoMemory) => Err(vl_drive::StepFail::NoMemory),
-            // The merge was abandoned. A store that it halted says so in its next step.
-            Err(_) => Err(vl_drive::StepFail::Refused),
-        }
+        as_merge(answer)
     }
 
     fn collect<R: Wait>(

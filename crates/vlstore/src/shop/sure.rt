@@ -33,22 +33,23 @@ impl SureStore {
     ghost use Rattle.std.specs.Prelude.{IfErr, IfOk, length, map};
     ghost use Rattle.vl_drive.specs.Stores.{AreFirst};
     ghost use Rattle.vl_mem.specs.SureDisk.{state_on};
+    ghost use Rattle.vl_model.specs.Limits.{max_room};
     ghost use Rattle.vlstore.specs.Reopening.{GoesOnFrom, IsOnlyWantOfOpening, KeepsStore};
     ghost use Rattle.vlstore.specs.Shops.{known_of, opened_by};
 
     /// Opens the store that another one left on its disk when it was closed, also where that crashed since, with so many
-    /// sessions, 1 to 64. It goes on with all that was committed. It is refused for want of memory alone, or where a
-    /// number of a file is used up (`Exhausted`).
+    /// sessions, 1 to 64. It goes on with all that was committed. It is refused for want of memory alone, or where no
+    /// number of a file is left (`Exhausted`).
     pub fn reopen(
         alloc: Global,
         disk: SureDisk,
         count: u32,
     ) -> Result<(SureStore, Vec<SureSession<SureDisk>>), OpenError>
         requires { KeepsStore (state_on disk) }
-        ensures from { IfOk result (λ r. GoesOnFrom (state_on disk) (opened_by r.0.store).origin) }
+        ensures from { IfOk result (λ r. GoesOnFrom (state_on disk) max_room (opened_by r.0.store).origin) }
         ensures count { IfOk result (λ r. ((opened_by r.0.store).count ≡ count) × (length r.1.items ≡ count)) }
         ensures first { IfOk result (λ r. AreFirst (opened_by r.0.store) 0 (map known_of r.1.items)) }
-        ensures refused { IfErr result IsOnlyWantOfOpening }
+        ensures refused { IfErr result (IsOnlyWantOfOpening (state_on disk)) }
     {
         let (store, shops) = open_again(alloc, disk, count)?;
         Ok((SureStore { store }, shops))

@@ -1,8 +1,11 @@
-ghost use Rattle.std.specs.Prelude.{◌≡◌, ◌+◌, ◌≤◌, false, is_some, [], IfErr, IfOk, None, length};
+ghost use Rattle.std.specs.Prelude.{◌≡◌, ◌+◌, ◌≤◌, is_some, [], IfErr, IfOk, length};
 ghost use Rattle.std.specs.Arc.{arc_value};
-ghost use Rattle.vl_disk.specs.Faults.{HasCause};
-ghost use Rattle.vl_engine.specs.Opening.{IsDiskFault, reader_faults, why_of};
+ghost use Rattle.std.specs.Option.{ForSome};
+ghost use Rattle.vl_engine_laws.specs.Carries.{Tells};
 ghost use Rattle.vl_model.specs.Limits.{max_room};
+ghost use Rattle.vlstore.specs.Opening.{IsRefusedOpening};
+ghost use Rattle.vlstore.specs.Reopening.{GoesOnFrom, IfTelling, KeepsStore};
+ghost use Rattle.vlstore.specs.Shops.{origin_of};
 ghost use Rattle.vlstore.specs.Standing.{NeverFails, Stands, parts};
 ghost use Rattle.vlstore.specs.Stores.{AreFirst, IsFirst, numbering, refused, store_of};
 ghost use Rattle.vlstore.specs.declared.locked.Origin.{Origin};
@@ -10,22 +13,23 @@ ghost use Rattle.vl_turn.specs.Locks.{lock_name, lock_start};
 ghost use Rattle.vl_turn.specs.Views.{next_of};
 
 use super::Store;
+use super::beginning::store_from;
 use crate::fails::StoreFail;
 use crate::locked::Locked;
 use crate::mark::{Starts, mark};
 use crate::session::Session;
 use std::alloc::{AllocError, Global};
 use std::marker::Brand;
+use std::snapshot::Snapshot;
 use std::sync::Arc;
 use vl_disk::Disk;
 use vl_engine::{Engine, OpenError, OpenFail};
 use vl_turn::{Token, TurnLock};
 
 impl<D: Disk + Drop> Store<D> {
-    /// Opens the store on a disk that tells nothing, as a folder is, and makes so many sessions, 1 to 64. Each log
-    /// may have `room` bytes. It answers as `Engine::open` does, which tells what each refusal means; `NoMemory` also
-    /// where none was left for the sessions, with the store on the disk then. Over a disk that tells its bytes open
-    /// an engine, and make the store by `new`.
+    /// Opens the store on a disk, and makes so many sessions, 1 to 64. Each log may have `room` bytes. It answers as
+    /// `Engine::open` does, which tells what each refusal means; `NoMemory` also where none was left for the sessions,
+    /// with the store on the disk then. A disk that tells contracts its bytes has to keep a store.
     pub fn open(
         alloc: Global,
         disk: D,
@@ -33,18 +37,20 @@ impl<D: Disk + Drop> Store<D> {
         sessions: u32,
     ) -> Result<(Store<D>, Vec<Session<D>>), OpenFail<D, D::Reader>>
         requires room { room ≤ max_room }
-        requires silent { (other : D) → D.told other ≡ None }
-        ensures tells { IfOk result (λ r. r.0.tells ≡ false) }
+        requires keeps { IfTelling D.told (Tells D.Watched disk KeepsStore) }
+        // It goes on with what the disk kept, in the layout that an opening leaves with that room.
+        ensures from { IfOk result (λ r. ForSome (D.told disk) (λ left. GoesOnFrom left room (origin_of r.0.origin))) }
+        ensures tells { IfOk result (λ r. r.0.tells ≡ is_some (D.told disk)) }
         ensures count { IfOk result (λ r. (r.0.session ≡ sessions) × (length r.1.items ≡ sessions)) }
         ensures first { IfOk result (λ r. AreFirst r.0 0 r.1.items) }
-        // A fault is counted, by the disk or by the reader that is handed back.
-        ensures cause { IfErr result (λ fail. HasCause (D.faults disk) (D.faults fail.disk)
-            (IsDiskFault (reader_faults D.Reader.faults result) (why_of result))) }
+        // A refusal has its cause, and leaves a disk on which the store stands yet.
+        ensures refused { IfErr result (IsRefusedOpening D.Watched D.Reader.faults disk) }
     {
+        let before = Snapshot::of(&disk);
         let engine = Engine::open(alloc, disk, room)?;
-        match opened::<D, Brand>(alloc, engine, sessions) {
+        match store_from::<D, Brand>(alloc, engine, &before, room, sessions) {
             Ok(made) => Ok(made),
-            Err(StoreFail::NoMemory(engine)) => Err(OpenFail {
+            Err(engine) => Err(OpenFail {
                 why: OpenError::NoMemory,
                 disk: engine.close(),
                 reader: None,
@@ -71,16 +77,19 @@ impl<D: Disk + Drop> Store<D> {
         ensures first { IfOk result (λ r. AreFirst r.0 0 r.1.items) }
         ensures back { IfErr result (λ fail. refused fail ≡ engine) }
     {
-        opened::<D, Brand>(alloc, engine, sessions)
+        match opened::<D, Brand>(alloc, engine, sessions) {
+            Ok(made) => Ok(made),
+            Err(engine) => Err(StoreFail::NoMemory(engine)),
+        }
     }
 }
 
-// A store, where this is what was told of the engine.
-fn opened<D: Disk + Drop, W: Starts>(
+// A store, where this is what was told of the engine. For want of memory the engine comes back.
+pub(super) fn opened<D: Disk + Drop, W: Starts>(
     alloc: Global,
     engine: Engine<D>,
     sessions: u32,
-) -> Result<(Store<D>, Vec<Session<D>>), StoreFail<Engine<D>>>
+) -> Result<(Store<D>, Vec<Session<D>>), Engine<D>>
     requires { Stands D.Held.bytes (NeverFails D.faults D.Reader.faults D.Writer.faults) W.origin
         (is_some (D.told engine.disk)) []
         (parts (D.told engine.disk) engine.core engine.merging engine.collecting engine.removing) }
@@ -88,23 +97,23 @@ fn opened<D: Disk + Drop, W: Starts>(
     ensures tells { IfOk result (λ r. r.0.tells ≡ is_some (D.told engine.disk)) }
     ensures count { IfOk result (λ r. (r.0.session ≡ sessions) × (length r.1.items ≡ sessions)) }
     ensures first { IfOk result (λ r. AreFirst r.0 0 r.1.items) }
-    ensures back { IfErr result (λ fail. refused fail ≡ engine) }
+    ensures back { IfErr result (λ back. back ≡ engine) }
 {
     let Ok(origin) = mark::<W>(alloc) else {
-        return Err(StoreFail::NoMemory(engine));
+        return Err(engine);
     };
     let locked = Locked { engine, origin };
     let Ok((lock, mut root)) = TurnLock::empty(alloc, &locked) else {
         let Locked { engine, origin: _ } = locked;
-        return Err(StoreFail::NoMemory(engine));
+        return Err(engine);
     };
     let Ok(lock) = Arc::new(alloc, lock) else {
         let Locked { engine, origin: _ } = locked;
-        return Err(StoreFail::NoMemory(engine));
+        return Err(engine);
     };
     let Ok(made) = seats(alloc, &lock, &mut root, sessions) else {
         let Locked { engine, origin: _ } = locked;
-        return Err(StoreFail::NoMemory(engine));
+        return Err(engine);
     };
     lock.fill(&mut root, locked);
     Ok((Store { lock, root }, made))

@@ -201,3 +201,6 @@ returns-clause-closes g c told =
     let back = (rw c.in-Err-NoMemory.field-0-is at (c.in-Err-NoMemory.ensures.back c.in-Err-NoMemory.txn)) refl in
     closes_later false (known_by v) (known_by u) (known_by c.give_up-in-Err-NoMemory.new.session) c.args.txn.ticket c.in-Err-NoMemory.txn.ticket
     (goes_on v u c.commit.ensures.on) s.own (ap (λ (t : _). t.ticket) back) (c.give_up-in-Err-NoMemory.ensures.closes (c.commit.ensures.on.tells ∙ told))
+
+pub returns-in-Err-Disk-clause-cause : goal.returns-in-Err-Disk-clause-cause
+returns-in-Err-Disk-clause-cause g c lease = (rw c.in-Err-Disk.field-0-is at c.in-Err-Disk.ensures.cause) tt

@@ -1,4 +1,4 @@
-use Rattle.std.proofs.Common.{◌≡◌, true, List, [], ◌∷◌, ◌+◌, ℕ, refl, sym, ◌∙◌, subst}
+use Rattle.std.proofs.Common.{◌≡◌, true, List, [], ◌∷◌, ◌+◌, ℕ, refl, sym, ◌∙◌, subst, inl, inr}
 use Rattle.std.specs.FinMap.{entries}
 use Rattle.std.specs.Prelude.{Option}
 use Rattle.vl_drive.specs.Answers.{asked}
@@ -14,6 +14,7 @@ use Rattle.vl_sequence.specs.Causes.{IsRuled, WasFull}
 use Rattle.vl_sequence.specs.Sequences.{Puts, lease_writes}
 use Rattle.vlstore.proofs.Leasing.{asks, finds, no_number}
 use Rattle.vlstore.proofs.Shopping.{goes_on, looks_itself}
+use Rattle.vlstore.specs.Counting.{WasCounted}
 use Rattle.vlstore.specs.Lists.{history_by}
 use Rattle.vlstore.specs.Sequences.{IsNoNumber}
 use Rattle.vlstore.specs.Shops.{known_by, origin_of}
@@ -58,9 +59,10 @@ returns-in_err-txn-clause-cause g c =
     let v = c.args.session.now in
     let w = c.begin.new.session in
     let why = c.in_err-txn.field-0.0 in
-    passed_up c.from_residual.result why (IsNoNumber v w c.args.key.now c.args.lease) c.from_residual.ensures.1
-    (no_number (v.tells ≡ true → WasFull (known_by w)) (λ value. ⊥) (λ answer. ⊥) v w c.args.key.now c.args.lease why
-    (λ full. full) (λ value no. absurd no) (λ answer no. absurd no) (c.in_err-txn.ensures.cause c.args.lease))
+    passed_up c.from_residual.result why (IsNoNumber g.D.Watched.faults (λ r. g.D.Reader.Reader.faults r) v w c.args.key.now c.args.lease) c.from_residual.ensures.1
+    (no_number g.D.Watched.faults (λ r. g.D.Reader.Reader.faults r) (v.tells ≡ true → WasFull (known_by w)) (λ value. ⊥) (λ answer. ⊥) ⊥
+    v w c.args.key.now c.args.lease why
+    (λ full. full) (λ value no. absurd no) (λ answer no. absurd no) (λ no. absurd no) (c.in_err-txn.ensures.cause c.args.lease))
 
 -- the key wasn't raised
 
@@ -73,11 +75,12 @@ returns-in-Err-clause-cause g c =
     let begun = c.in_ok-txn.txn in
     let had : Option Stored → Type 0 = λ value. (h : History) (reads : List Read) → Sees g.D.Held.HeldFile.bytes begun h reads
     → value ≡ value_at h begun.number key in
-    no_number ⊥ had (λ answer. ⊥) v w key c.args.lease c.in-Err.why (λ no. absurd no)
+    no_number g.D.Watched.faults (λ r. g.D.Reader.Reader.faults r) ⊥ had (λ answer. ⊥) _ v w key c.args.lease c.in-Err.why (λ no. absurd no)
     (λ value read told. finds (known_by v) (known_by u) (known_by w) begun.ticket begun.number key value
     (c.in_ok-txn.ensures.begun told) (goes_on u w c.give_up.ensures.on)
     (read (history_by u.origin u.seen) [] (c.in_ok-txn.ensures.sees told)))
-    (λ answer no. absurd no) c.in-Err.ensures.cause
+    (λ answer no. absurd no)
+    (λ failed. inr (record { before = failed.before.inner; after = failed.after.inner; rose = failed.rose })) c.in-Err.ensures.cause
 
 -- it wasn't committed
 
@@ -96,9 +99,10 @@ returns-in_err-commit-in-Ok-clause-cause g c =
     let ruled : CommitAnswer → Type 0 = λ answer. u.tells ≡ true → (h : History) (reads : List Read)
     → Sees g.D.Held.HeldFile.bytes last h reads
     → IsRuled (origin_of u.origin) u.seen w.seen (asked last.ticket last.number reads (entries last.writes)) answer in
-    passed_up c.from_residual-in_err-commit-in-Ok.result why (IsNoNumber v w key c.args.lease)
+    passed_up c.from_residual-in_err-commit-in-Ok.result why (IsNoNumber g.D.Watched.faults (λ r. g.D.Reader.Reader.faults r) v w key c.args.lease)
     c.from_residual-in_err-commit-in-Ok.ensures.1
-    (no_number ⊥ (λ value. ⊥) ruled v w key c.args.lease why (λ no. absurd no) (λ value no. absurd no)
+    (no_number g.D.Watched.faults (λ r. g.D.Reader.Reader.faults r) ⊥ (λ value. ⊥) ruled (WasCounted g.D.Watched.faults) v w key
+    c.args.lease why (λ no. absurd no) (λ value no. absurd no)
     (λ answer is told.
     let sees = c.in_ok-txn.ensures.sees told in
     let for_lease = subst (λ (n : ℕ). IsRuled (origin_of u.origin) u.seen w.seen (asked last.ticket n reads (entries writes)) answer)
@@ -108,4 +112,5 @@ returns-in_err-commit-in-Ok-clause-cause g c =
     asks (known_by v) (known_by u) (known_by w) begun.ticket begun.number key (value_at h begun.number key)
     (c.in_ok-txn.ensures.begun told) (goes_on u w c.commit.ensures.on) refl c.args.lease last.ticket c.in-Ok.first answer
     (c.in-Ok.ensures.told h [] sees) c.in-Ok.ensures.fits for_lease)
+    (λ failed. inl failed)
     (c.in_err-commit-in-Ok.ensures.cause c.args.lease))

@@ -232,3 +232,10 @@ returns-clause-merge g c =
     c.finish.ensures.entered)
     (leaves_merge l s done (leaves_by l (commit_done ticket writes l h) (Ended ticket, ended ticket l) outcome
     (commit_leaves ticket writes l h) (tt, refl)))))
+
+pub returns-clause-cause : goal.returns-clause-cause
+returns-clause-cause g c failed = record {
+  before = c.value-locked.result.now.engine.disk;
+  after = c.commit-answer.new.self.disk;
+  rose = c.commit-answer.ensures.cause.rose failed;
+}

@@ -179,3 +179,10 @@ returns-clause-merge g c =
     c.finish.ensures.entered)
     (leaves_merge l s done (leaves_by l (step_done (flush_ruling l h).layout) (Changed, l) outcome
     (step_leaves l (flush_ruling l h).layout (ap (option_map (λ (j : OpenJob). j.lent)) (flush_job l h))) (tt, refl)))))
+
+pub returns-clause-cause : goal.returns-clause-cause
+returns-clause-cause g c failed = record {
+  before = c.value-locked.result.now.engine.disk;
+  after = c.flush-answer.new.self.disk;
+  rose = c.flush-answer.ensures.cause.rose failed;
+}

@@ -270,3 +270,10 @@ returns-clause-empty g c told =
     (λ none. g.met.D.Disk.alike old.disk (lock_start at).engine.disk none) in
     empty_told g.D.Writer.Writer (g.D.Watched.told old.disk) is_told.0 is_told.1 c.fresh-answer.result
     c.fresh-answer.ensures.empty
+
+pub returns-clause-cause : goal.returns-clause-cause
+returns-clause-cause g c failed = record {
+  before = c.value-locked.result.now.engine.disk;
+  after = c.fresh-answer.new.self.disk;
+  rose = c.fresh-answer.ensures.cause.rose failed;
+}

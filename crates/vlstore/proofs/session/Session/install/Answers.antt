@@ -309,3 +309,10 @@ returns-clause-again g c =
     (own_is _ (lock_name at) (lock_start at) o tells c.take-turn.result.value before after v
     (install_entry planned made s l h outcome) is c.take-turn.ensures.begins
     c.finish.ensures.entered) c.install-answer.ensures.handed)
+
+pub returns-clause-cause : goal.returns-clause-cause
+returns-clause-cause g c failed = record {
+  before = c.value-locked.result.now.engine.disk;
+  after = c.install-answer.new.self.disk;
+  rose = c.install-answer.ensures.cause.rose failed;
+}

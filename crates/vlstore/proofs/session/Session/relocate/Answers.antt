@@ -234,3 +234,6 @@ returns-clause-merge g c =
     (relocate_entry p batch s l h outcome) is c.take-turn.ensures.begins
     c.finish.ensures.entered)
     (leaves_merge l s done (relocate_leaves l h p batch outcome))))
+
+pub returns-clause-cause : goal.returns-clause-cause
+returns-clause-cause g c = c.move_now-answer.ensures.counted

@@ -171,3 +171,10 @@ returns-clause-merge g c =
     c.take-turn.ensures.begins
     c.finish.ensures.entered)
     (leaves_merge l s done (leaves_by l (step_done (rotated l)) (Changed, l) outcome (step_leaves l (rotated l) refl) (tt, refl)))))
+
+pub returns-clause-cause : goal.returns-clause-cause
+returns-clause-cause g c failed = record {
+  before = c.value-locked.result.now.engine.disk;
+  after = c.rotate-answer.new.self.disk;
+  rose = c.rotate-answer.ensures.cause.rose failed;
+}

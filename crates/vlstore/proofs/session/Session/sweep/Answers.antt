@@ -193,3 +193,10 @@ returns-clause-merge g c =
     is c.take-turn.ensures.begins
     c.finish.ensures.entered)
     (leaves_merge l s done (sweep_leaves gone l h outcome))))
+
+pub returns-clause-cause : goal.returns-clause-cause
+returns-clause-cause g c failed = record {
+  before = c.value-locked.result.now.engine.disk;
+  after = c.sweep-answer.new.self.disk;
+  rose = c.sweep-answer.ensures.cause.rose failed;
+}

@@ -7,7 +7,7 @@ use Rattle.vl_engine_model.specs.Relocation.{Pass}
 use Rattle.vl_engine_model.specs.Rulings.Relocate.{relocate_ruling}
 use Rattle.vlstore.specs.Standing.{parts}
 use Rattle.vlstore.proofs.Collecting.{collects_past, relocate_leaves, same_logs}
-use Rattle.vlstore.proofs.Faults.{move_unfailing}
+use Rattle.vlstore.proofs.Faults.{move_counted, move_unfailing}
 use Rattle.vlstore.proofs.Wholes.{whole_with}
 use Rattle.vlstore.proofs.session.relocate.move_now.Goals as goal
 
@@ -54,3 +54,9 @@ returns-in-Ok-clause-cause g c surely name at =
     move_unfailing g.D.Watched.faults g.D.Reader.Reader.faults g.D.Writer.Writer.faults c.args.engine.now.disk
     c.relocate.new.self.disk c.in-Ok.reader.looks.reader c.relocate.new.looks.reader c.args.engine.now.core.front.log.number c.relocate.result
     c.relocate.ensures.cause surely name at
+
+pub returns-in-Ok-clause-counted : goal.returns-in-Ok-clause-counted
+returns-in-Ok-clause-counted g c =
+    move_counted g.D.Watched.faults (λ r. g.D.Reader.Reader.faults r) c.args.engine.now.disk c.relocate.new.self.disk
+    c.in-Ok.reader.looks.reader c.relocate.new.looks.reader c.args.engine.now.core.front.log.number c.relocate.result
+    c.relocate.ensures.cause

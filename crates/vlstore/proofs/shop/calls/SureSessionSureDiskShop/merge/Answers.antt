@@ -1,23 +1,20 @@
 use Rattle.std.proofs.Common.{refl, ◌∙◌}
-use Rattle.vlstore.proofs.Shopping.{looks_aside}
+use Rattle.vlstore.proofs.ShopMerges.{merge_refused}
+use Rattle.vlstore.proofs.Shopping.{looks_aside, no_fault_counted}
+use Rattle.vlstore.proofs.SureDisks.{sure_disks}
 use Rattle.vlstore.proofs.shop.calls.SureSessionSureDiskShop.merge.Goals as goal
 
-pub returns-in-Ok-clause-steps : goal.returns-in-Ok-clause-steps
-returns-in-Ok-clause-steps g c =
+pub returns-clause-steps : goal.returns-clause-steps
+returns-clause-steps g c =
     looks_aside c.args.self.now.session c.merge-answer.new.self c.number.new.self _ c.merge-answer.ensures.on c.number.ensures.on
     (c.merge-answer.ensures.works c.args.self.now.tells)
     (c.number.ensures.looks (c.merge-answer.ensures.on.tells ∙ c.args.self.now.tells))
 
-pub returns-in-Err-NoMemory-clause-steps : goal.returns-in-Err-NoMemory-clause-steps
-returns-in-Err-NoMemory-clause-steps g c =
-    looks_aside c.args.self.now.session c.merge-answer.new.self c.number.new.self _ c.merge-answer.ensures.on c.number.ensures.on
-    (c.merge-answer.ensures.works c.args.self.now.tells)
-    (c.number.ensures.looks (c.merge-answer.ensures.on.tells ∙ c.args.self.now.tells))
+pub returns-clause-refused : goal.returns-clause-refused
+returns-clause-refused g c =
+    merge_refused _ sure_disks _ _ _ (λ reader. refl) (λ writer. refl) c.args.self.now.session c.merge-answer.new.self
+    c.number.new.self c.number.ensures.on c.number.ensures.own c.args.self.now.runs c.merge-answer.result c.as_merge.result
+    c.as_merge.ensures.refused (c.merge-answer.ensures.refused c.args.self.now.tells)
 
-pub returns-in-Err : goal.returns-in-Err
-returns-in-Err g c = record {
-  steps = looks_aside c.args.self.now.session c.merge-answer.new.self c.number.new.self _ c.merge-answer.ensures.on c.number.ensures.on
-      (c.merge-answer.ensures.works c.args.self.now.tells)
-      (c.number.ensures.looks (c.merge-answer.ensures.on.tells ∙ c.args.self.now.tells));
-  faults = refl;
-}
+pub returns-clause-faults : goal.returns-clause-faults
+returns-clause-faults g c = no_fault_counted _ c.args.self.now.session c.number.new.self c.as_merge.ensures.faults

@@ -1,4 +1,4 @@
-use Rattle.vlstore.proofs.shop.marks.mark_of.Given as goal
+use Rattle.vlstore.proofs.marks.mark_of.Given as goal
 
 abbrev pub ghosts-mark : goal.ghosts-mark
 ghosts-mark g a = record { origin = g.origin }

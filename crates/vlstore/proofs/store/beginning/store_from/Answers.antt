@@ -1,5 +1,5 @@
 use Rattle.std.proofs.Common.{refl}
-use Rattle.vlstore.proofs.shop.reopen.store_of.Goals as goal
+use Rattle.vlstore.proofs.store.beginning.store_from.Goals as goal
 
 pub store_at-requires : goal.store_at-requires
 store_at-requires g c κs within =

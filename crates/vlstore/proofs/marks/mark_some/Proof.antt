@@ -14,18 +14,18 @@ use borrow.Fn.Written.{at_code, close}
 use Rattle.atomic_table.specs.declared.shared.Seat.{Seat}
 use Rattle.std.proofs.Common.{◌≡◌, IfOk, Result, Ok, Err, subst, sym}
 use Rattle.std.specs.declared.alloc.AllocError.{AllocError}
-use Rattle.vlstore.specs.contracts.shop.marks.mark_some.Key as key
+use Rattle.vlstore.specs.contracts.marks.mark_some.Key as key
 use Rattle.vlstore.specs.declared.locked.Origin.{Origin}
-use Rattle.vlstore.specs.declared.shop.marks.Asks.{Ghosts}
+use Rattle.vlstore.specs.declared.marks.Asks.{Ghosts}
 use Rattle.vlstore.proofs.ShopPicks.{known_some}
-use Rattle.vlstore.proofs.shop.marks.mark_of.Met.{met}
-use Rattle.vlstore.proofs.shop.marks.mark_of.Reads as called
-use Rattle.vlstore.proofs.shop.marks.mark_of.Symbol.{name as callee}
-use Rattle.vlstore.proofs.shop.marks.mark_some.Code as code
-use Rattle.vlstore.proofs.shop.marks.mark_some.Kinds as kinds
-use Rattle.vlstore.proofs.shop.marks.mark_some.Lts as lts
-use Rattle.vlstore.proofs.shop.marks.mark_some.Reads as reads
-use Rattle.vlstore.proofs.shop.marks.mark_some.Statement.{statement}
+use Rattle.vlstore.proofs.marks.mark_of.Met.{met}
+use Rattle.vlstore.proofs.marks.mark_of.Reads as called
+use Rattle.vlstore.proofs.marks.mark_of.Symbol.{name as callee}
+use Rattle.vlstore.proofs.marks.mark_some.Code as code
+use Rattle.vlstore.proofs.marks.mark_some.Kinds as kinds
+use Rattle.vlstore.proofs.marks.mark_some.Lts as lts
+use Rattle.vlstore.proofs.marks.mark_some.Reads as reads
+use Rattle.vlstore.proofs.marks.mark_some.Statement.{statement}
 
 abbrev Mark : Type 0
 Mark = Seat (Unit {0}) Origin
@@ -62,4 +62,4 @@ mark_some_spec 𝓤 𝓛 𝓜 𝓡 wired W L g d bound =
     (plain_of 𝓛 1 (lts.ps W L d) (lts.r W L d) (reads.Pre W L g d) (reads.Post W L g d))
     (lts.spec W L d (claims W L g d) (reads.Pre W L g d) (reads.Post W L g d) (asked W L g d) (returns W L g d) 𝓤 𝓛 E
     (known_some 𝓛 E 0 (lts.ps-0 W L d) (lts.r-0 W L d) (Suits W L g d) (λ i. called.Asked-at i.0) (λ i. called.Learnt-at i.0) callee
-    (λ i. called.known-at i.0 w 𝓡.env callee (𝓡.env callee) refl (met 𝓤 𝓛 𝓜 𝓡 (code.calls-vlstore::shop::marks::mark_of 𝓡.env wired))))))
+    (λ i. called.known-at i.0 w 𝓡.env callee (𝓡.env callee) refl (met 𝓤 𝓛 𝓜 𝓡 (code.calls-vlstore::marks::mark_of 𝓡.env wired))))))
