@@ -8,7 +8,7 @@ use Rattle.vl_script_model.specs.Endings.{status_of}
 use Rattle.vl_script_model.specs.Runs.{IsFront}
 use Rattle.vl_script_model.specs.declared.ending.Ending.{Ending}
 use Rattle.vl_script_model.specs.declared.ending.Ending.TheVariants.{BadWords, NoMemory, WriteFault}
-use Rattle.vl_prog.specs.Process.{MayExitWith, ServedOver}
+use Rattle.vl_prog.specs.Process.{MayExitWith, Replaying, ServedOver}
 use Rattle.vl_prog.specs.Run.{AreNotPlain, AskFor, EndsBy}
 use Rattle.vl_script.specs.declared.words.Command.{Command}
 
@@ -53,8 +53,8 @@ unserved_exits g old new words status ends = record {
 
 -- a run over words is one over the same words
 pub over_same : {S K D R W : Type 0} {s : source.Ghosts S} {k : sink.Ghosts K} {g : Ghosts D} {faults : R → ℕ} {writes : W → ℕ}
-    {IsMade : List ℕ → D → Type 0} {words other : List (List ℕ)} {from from' : S} {to to' : K} {left : D} {status : ℕ} → words ≡ other
-    → ServedOver s k g faults writes IsMade words from from' to to' left status
-    → ServedOver s k g faults writes IsMade other from from' to to' left status
-over_same {S} {K} {D} {R} {W} {s} {k} {g} {faults} {writes} {IsMade} {words} {other} {from} {from'} {to} {to'} {left} {status} same served =
-    subst (λ (w : List (List ℕ)). ServedOver s k g faults writes IsMade w from from' to to' left status) same served
+    {IsMade : List ℕ → D → Type 0} {Called : Replaying K D} {words other : List (List ℕ)} {from from' : S} {to to' : K} {left : D} {status : ℕ} → words ≡ other
+    → ServedOver s k g faults writes IsMade Called words from from' to to' left status
+    → ServedOver s k g faults writes IsMade Called other from from' to to' left status
+over_same {S} {K} {D} {R} {W} {s} {k} {g} {faults} {writes} {IsMade} {Called} {words} {other} {from} {from'} {to} {to'} {left} {status} same served =
+    subst (λ (w : List (List ℕ)). ServedOver s k g faults writes IsMade Called w from from' to to' left status) same served

@@ -1,5 +1,5 @@
 -- The process: the folder that its words name, and what a run over them came to.
-use Rattle.std.specs.Prelude.{◌≡◌, ◌≢◌, ◌<◌, ◌⊎◌, ℕ, List, ◌∷◌, Some, codes}
+use Rattle.std.specs.Prelude.{◌≡◌, ◌≢◌, ◌<◌, ◌⊎◌, ℕ, List, ◌∷◌, Option, Some, codes}
 use Rattle.vl_disk.specs.Crash.{Image}
 use Rattle.vl_disk.specs.DiskState.{DiskState}
 use Rattle.vl_disk.specs.Faults.{Rose}
@@ -16,6 +16,7 @@ use Rattle.vl_script_model.specs.Runs.{outside}
 use Rattle.vl_script_model.specs.Sequential.{State}
 use Rattle.vl_script_model.specs.Start.{StartsIn, StaysOpenable}
 use Rattle.vl_script_model.specs.Steps.{IsRefusedRun}
+use Rattle.vl_script_model.specs.Trial.{TriesInTime}
 use Rattle.vl_script_model.specs.Trying.{trial_of}
 use Rattle.vl_script_model.specs.declared.ending.Ending.{Ending}
 use Rattle.vl_script_model.specs.declared.ending.Ending.TheVariants.{BadWords}
@@ -59,6 +60,9 @@ pub record DoesAsAsked {S K D R : Type 0} (s : source.Ghosts S) (k : sink.Ghosts
   -- A trial tried its input, and left the disk alone.
   pub tries : (stop : ℕ) (outcome : Outcome) (input : List ℕ) → AskFor words (Trial stop outcome) → s.left old.source ≡ Some input
       → StatusOfTrial (trial_of stop input outcome) (k.held old.sink) (k.held new.sink) (s.left new.source) status
+  pub tries_in_time : (stop : ℕ) (outcome : Outcome) (input : List ℕ) → AskFor words (Trial stop outcome)
+      → s.left old.source ≡ Some input
+      → TriesInTime (trial_of stop input outcome) (k.held old.sink) (k.held new.sink) (s.asked new.source)
   pub untouched : (stop : ℕ) (outcome : Outcome) → AskFor words (Trial stop outcome) → new.disk ≡ old.disk
   -- A benchmark and clients printed what they came to, and left the source alone too.
   pub benches : (seed count : ℕ) → AskFor words (Bench seed count)
@@ -99,14 +103,22 @@ pub record HasItsCause {S K D R W : Type 0} (s : source.Ghosts S) (k : sink.Ghos
   pub no_stream_fault : status < 6
       → (s.faults new.source ≡ s.faults old.source) × (k.faults new.sink ≡ k.faults old.sink)
 
+-- What is said of a replay over a disk, whatever that holds: from what its source had left and its sink held, to the sink's end and how
+-- the run ended.
+abbrev pub Replaying : Type 0 → Type 0 → Type 1
+Replaying K D = D → (left : Option (List ℕ)) → (old new : K) → Ending → Type 0
+
 -- A run over these words, and over the disk that was made for their folder, left the source, the sink and the disk so.
 pub record ServedOver {S K D R W : Type 0} (s : source.Ghosts S) (k : sink.Ghosts K) (g : Ghosts D) (faults : R → ℕ) (writes : W → ℕ)
-    (IsMade : (folder : List ℕ) → D → Type 0) (words : List (List ℕ)) (source source' : S) (sink sink' : K)
+    (IsMade : (folder : List ℕ) → D → Type 0) (Called : Replaying K D) (words : List (List ℕ)) (source source' : S) (sink sink' : K)
     (left : D) (status : ℕ) : Type 0 where
   -- the disk as it was made
   pub made : D
   pub is_made : IsMade (folder_of words) made
   pub does : DoesAsAsked s k g faults words (handed source sink made) (handed source' sink' left) status
   pub cause : HasItsCause s k g faults writes words (handed source sink made) (handed source' sink' left) status
+  -- In a replay each line was answered what the engine's call gave.
+  pub called : AskFor words Replay
+      → (ending : Ending) × (status ≡ status_of ending) × Called made (s.left source) sink sink' ending
   -- A store may be opened there again, where one might before.
   pub again : (start : State) → StartsIn g made start → StaysOpenable g made left

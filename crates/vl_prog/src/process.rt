@@ -6,6 +6,7 @@ ghost use Rattle.std.specs.Process.{exit_status};
 ghost use Rattle.vl_script_model.specs.Endings.{status_of};
 ghost use Rattle.vl_script_model.specs.declared.ending.Ending.{Ending as HowEnded};
 ghost use Rattle.vl_script_model.specs.declared.ending.Ending.TheVariants as endings;
+ghost use Rattle.vl_replay.specs.AsCalled.{RunsFromOpening, files_by, shares_by};
 ghost use Rattle.vl_prog.specs.Run.{EndsBy};
 ghost use Rattle.vl_prog.specs.Process.{MayExitWith, ServedOver, folder_of};
 
@@ -50,6 +51,8 @@ pub fn serve<
     ensures served { IfSome result.disk (λ disk. (given : _) × (words ≡ Some given)
         × ServedOver S.Source K.Sink D.Watched D.Reader.faults D.Writer.faults
         (λ folder made. (path : _) × (string_bytes path ≡ folder) × M.post make_disk path made)
+        (RunsFromOpening D.Watched (files_by D.Held.bytes D.Held.size D.Held.named)
+        (shares_by D.Held.is_clone D.Held.is_infallible) D.Reader.Reader D.Writer.Writer K.Sink)
         (map string_bytes given.items) source.old source.new sink.old sink.new disk (exit_status result.exit)) }
     ensures no_memory { IfNone result.disk ((source.new ≡ source.old)
         × EndsBy K.Sink sink.old sink.new endings.NoMemory (exit_status result.exit)) }

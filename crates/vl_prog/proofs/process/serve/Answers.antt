@@ -18,6 +18,7 @@ returns-clause-served g c =
           answers = ran.answers;
           input = ran.input;
           tries = ran.tries;
+          tries_in_time = ran.tries_in_time;
           untouched = ran.untouched;
           benches = ran.benches;
           drives = ran.drives;
@@ -36,6 +37,7 @@ returns-clause-served g c =
           write_fault = ran.write_fault;
           no_stream_fault = ran.no_stream_fault;
         };
+        called = ran.called;
         again = ran.again;
       }),
     )
