@@ -1,4 +1,6 @@
-use crate::tests::setting::{Folder, LOG, TABLE, has_bytes, inside, is_long, made_disk, make_four, over};
+use crate::tests::setting::{
+    Folder, LOG, TABLE, has_bytes, inside, is_long, made_disk, make_four, over,
+};
 use std::fs::{File, OpenOptions};
 use std::io;
 use std::test::Fail;
