@@ -13,8 +13,8 @@
 //! whole list.
 //!
 //! What a session began goes back to it, while it lives. Where the disk didn't tell its bytes when the store was
-//! made, as a folder doesn't, of answers is claimed only that what failed was counted. Nowhere is it claimed that a
-//! turn comes.
+//! made, as a folder doesn't, of answers is claimed only that what a single step failed by was counted. Nowhere is it
+//! claimed that a turn comes.
 #![tactic(auto)]
 
 mod fails;
