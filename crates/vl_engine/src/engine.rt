@@ -4,6 +4,7 @@ ghost use Rattle.std.specs.Option.{ForSome};
 ghost use Rattle.vl_engine_laws.specs.Fit.{IsFitFor};
 ghost use Rattle.vl_engine_laws.specs.Known.{are_known};
 ghost use Rattle.vl_engine_laws.specs.Lent.{AreLent};
+ghost use Rattle.vl_pins.specs.Same.{HaveSameTickets};
 ghost use Rattle.vl_space.specs.Removing.{IsThere};
 
 mod begin;
@@ -49,4 +50,6 @@ pub struct Engine<D: Disk> {
     ghost known: { are_known core.front.oracle.last core.version.active.entries ≡ true },
     // While it isn't halted, the files in use stand, and each retired file can be removed.
     ghost there: { core.front.halted ≡ None → IsThere D.Watched D.Writer.Writer disk core merging removing.stock },
+    // What lives is pinned under its own tickets, and nothing else is.
+    ghost pinned: { HaveSameTickets core.front.oracle removing.pins.live },
 }

@@ -1,12 +1,11 @@
 -- What is pinned while a call goes on.
-use Rattle.std.specs.Prelude.{◌≡◌, ◌≢◌, ◌⊎◌, ℕ, length, Option, None, Some, Result, Ok, Err}
+use Rattle.std.specs.Prelude.{◌≡◌, ◌⊎◌, ℕ, Option, None, Some, Result, Ok, Err}
 use Rattle.vl_space.specs.declared.fails.PickFail.{PickFail}
 use Rattle.vl_space.specs.declared.kept.Removing.{Removing}
 use Rattle.vl_engine_model.specs.Rising.{IsRising}
 use Rattle.vl_engine_model.specs.Tickets.{tickets_of}
 use Rattle.vl_engine_model.specs.declared.layout.Layout.{Layout}
 use Rattle.vl_engine_model.specs.declared.live.Live.{Live}
-use Rattle.vl_model.specs.Limits.{max_live}
 use Rattle.vl_oracle.specs.LiveTickets.{LiveTickets, begun, ended}
 use Rattle.vl_oracle.specs.declared.begin_fail.BeginFail.{BeginFail}
 use Rattle.vl_pins.specs.Pins.{ArePinsOf, raised}
@@ -23,17 +22,20 @@ abbrev pub without_pin : Option ℕ → Pins → Pins
 without_pin None pins = pins
 without_pin (Some ticket) pins = record pins { live = ended ticket pins.live }
 
--- the number is pinned under the next ticket, or noted as the present one
+-- the number is pinned under the next ticket; or noted as the present one, at most
 abbrev pub pinned_next : ℕ → Pins → Pins
 pinned_next version pins = record pins { live = begun (raised version pins.live) }
 
 abbrev pub noted : ℕ → Pins → Pins
 noted version pins = record pins { live = raised version pins.live }
 
--- What begins pins it, where not too many are pinned already; and where it is refused the number is noted at most.
+abbrev pub NotesAtMost : ℕ → (old new : Pins) → Type 0
+NotesAtMost version old new = (new ≡ old) ⊎ (new ≡ noted version old)
+
+-- What begins pins it; and where it is refused the number is noted at most.
 abbrev pub PinsAs : {T : Type 0} → ℕ → (old new : Pins) → Result T BeginFail → Type 0
-PinsAs version old new (Ok given) = length old.live.tickets ≢ max_live → new ≡ pinned_next version old
-PinsAs version old new (Err why) = (new ≡ old) ⊎ (new ≡ noted version old)
+PinsAs version old new (Ok given) = new ≡ pinned_next version old
+PinsAs version old new (Err why) = NotesAtMost version old new
 
 module _ {L : Type 0} where
   -- what has this ticket pins nothing then

@@ -4,7 +4,7 @@ ghost use Rattle.vl_front.specs.Front.{IsPruned, Knows, SameLog};
 ghost use Rattle.vl_engine_model.specs.Rulings.Begin.{begun as begun_there};
 ghost use Rattle.vl_engine_model.specs.Tickets.{free_ticket as free_there, tickets_of};
 ghost use Rattle.vl_engine_model.specs.declared.layout.Layout.{Layout};
-ghost use Rattle.vl_space.specs.Pinning.{PinsAs, PinsLive, without_pin};
+ghost use Rattle.vl_space.specs.Pinning.{NotesAtMost, PinsLive, pinned_next, without_pin};
 ghost use Rattle.vl_model.specs.History.{History};
 ghost use Rattle.vl_model.specs.Limits.{max_live};
 ghost use Rattle.vl_oracle.specs.LiveTickets.{begun, free_ticket};
@@ -25,7 +25,9 @@ pub fn begin(front: &mut Front, pins: &mut Pins, epoch: u64) -> Result<u32, Begi
     ensures log { SameLog front.old front.new }
     ensures knows { (h : History) → Knows front.old h → Knows front.new h }
     ensures pruned { IsPruned front.old → IsPruned front.new }
-    ensures pins { PinsAs epoch pins.old pins.new result }
+    // It is pinned where not too many are already; and where it is refused the epoch is noted at most.
+    ensures pins { OnOk result (length pins.old.live.tickets ≢ max_live → pins.new ≡ pinned_next epoch pins.old) }
+    ensures noted { OnErr result (NotesAtMost epoch pins.old pins.new) }
     // Where both have the same tickets they still do.
     ensures same { HaveSameTickets front.old.oracle pins.old.live → HaveSameTickets front.new.oracle pins.new.live }
 

@@ -14,6 +14,7 @@ ghost use Rattle.vl_engine_model.specs.Rulings.Begin.{begin_ruling};
 ghost use Rattle.vl_engine_model.specs.Rulings.View.{view_ruling};
 ghost use Rattle.vl_engine_model.specs.declared.layout.Layout.{Layout};
 ghost use Rattle.vl_model.specs.History.{History};
+ghost use Rattle.vl_oracle.specs.LiveTickets.{free_ticket};
 ghost use Rattle.vl_table.specs.Kept.{Files};
 ghost use Rattle.vl_table.specs.KeptBlocks.{AreKept};
 ghost use Rattle.vl_space.specs.Pinning.{PinsAs};
@@ -78,7 +79,9 @@ impl<D: Disk> Engine<D> {
         ensures back { self.new.core.back ≡ self.old.core.back }
         ensures merging { self.new.merging ≡ self.old.merging }
         ensures collecting { self.new.collecting ≡ self.old.collecting }
+        // Whatever the disk tells: the epoch is pinned, under its ticket.
         ensures pins { PinsAs self.old.core.back.epoch self.old.removing.pins self.new.removing.pins result }
+        ensures ticket { IfOk result (λ txn. txn.ticket ≡ free_ticket self.old.removing.pins.live) }
         ensures stock { self.new.removing.stock ≡ self.old.removing.stock }
         // If it named no key of a commit at or below the floor, it still doesn't.
         ensures pruned { IsPruned self.old.core.front → IsPruned self.new.core.front }
@@ -123,7 +126,9 @@ impl<D: Disk> Engine<D> {
         ensures back { self.new.core.back ≡ self.old.core.back }
         ensures merging { self.new.merging ≡ self.old.merging }
         ensures collecting { self.new.collecting ≡ self.old.collecting }
+        // Whatever the disk tells: the epoch is pinned, under its ticket.
         ensures pins { PinsAs self.old.core.back.epoch self.old.removing.pins self.new.removing.pins result }
+        ensures ticket { IfOk result (λ view. view.ticket ≡ free_ticket self.old.removing.pins.live) }
         ensures stock { self.new.removing.stock ≡ self.old.removing.stock }
         // If it named no key of a commit at or below the floor, it still doesn't.
         ensures pruned { IsPruned self.old.core.front → IsPruned self.new.core.front }

@@ -4,7 +4,7 @@ use Rattle.std.proofs.Common.{sym, ap, subst, ◌∙◌}
 use Rattle.std.proofs.lemmas.List.{length-map}
 use Rattle.vl_front.specs.declared.front.Front.{Front}
 use Rattle.vl_pins.specs.Same.{HaveSameTickets, tickets_in}
-use Rattle.vl_pins.specs.laws.SameTickets.{same_begun}
+use Rattle.vl_pins.specs.laws.SameTickets.{same_begun, same_ended}
 use Rattle.vl_space.specs.Pinning.{PinsAs, PinsLive, noted, pinned_next, without_pin}
 use Rattle.vl_engine_model.specs.Rulings.Begin.{begun as begun_there}
 use Rattle.vl_engine_model.specs.Tickets as tickets
@@ -68,6 +68,18 @@ pub still_same : (now : Front) (front : Front) (pins : Pins) (version : ℕ) (ne
     → now ≡ front → new ≡ noted version pins → HaveSameTickets now.oracle new.live
 still_same now front pins version new same alike is =
     ap (λ (f : Front). tickets_in f.oracle.tickets) alike ∙ same ∙ sym (ap (λ (p : Pins). tickets_in p.live.tickets) is)
+
+-- So they have where something ended in both, also behind other numbers.
+pub both_ended : (live : LiveTickets) (pins : Pins) (ticket : ℕ) (now : LiveTickets) (new : Pins) → HaveSameTickets live pins.live
+    → now ≡ ended ticket live → new ≡ record pins { live = ended ticket pins.live } → HaveSameTickets now new.live
+both_ended live pins ticket now new same end unpin =
+    ap (λ (l : LiveTickets). tickets_in l.tickets) end ∙ same_ended live pins.live same ticket
+    ∙ sym (ap (λ (p : Pins). tickets_in p.live.tickets) unpin)
+
+-- They have where the merge, the pass or the present number alone may be another.
+pub same_beside : (live : LiveTickets) (old new : Pins) → HaveSameTickets live old.live → new.live.tickets ≡ old.live.tickets
+    → HaveSameTickets live new.live
+same_beside live old new same is = same ∙ sym (ap tickets_in is)
 
 -- It is the same refusal that is handed on.
 pub refused_pins : {U : Type 0} (version : ℕ) (old new : Pins) (result : Result U BeginFail) (why : BeginFail)

@@ -31,8 +31,8 @@ returns-in-Ok-begin-clause-pins c =
       | in-Err-TooMany w ↦ λ room. absurd (room (w.in-Err-TooMany.ensures.too_many.0 (cc)))
     ]
 
-pub returns-in-Err-clause-pins : goal.returns-in-Err-clause-pins
-returns-in-Err-clause-pins c =
+pub returns-in-Err-clause-noted : goal.returns-in-Err-clause-noted
+returns-in-Err-clause-noted c =
     elim c.match-begin.branch [
       | in-Ok w ↦ inr (c.unpin.ensures ∙ ap (λ (o : Option ℕ). without_pin o c.begin.new.self) w.pinned-is
           ∙ undone_so c.args.pins.now c.args.epoch c.begin.new.self w.in-Ok.ticket w.in-Ok.ensures.begun.1 w.in-Ok.ensures.undone)

@@ -12,6 +12,7 @@ invariant_of-self g c = let was = c.args.self.now in
       numbered = was.numbered;
       lent = λ o some. absurd (never o some);
       known = was.known;
+      pinned = was.pinned;
       there = λ running. there_left g.D.Watched was.disk was.core was.merging c.args.job was.removing.stock c.abandon_files.new.stock
           (was.there running) c.requires
           (subst (λ (files : List (Lent g.row.D-Writer.Denot g.D.Writer.Writer)). LeavesFiles files was.removing.stock

@@ -24,6 +24,9 @@ returns-in_err-view-clause-pins g c =
     refused_pins c.args.self.now.core.back.epoch c.args.self.now.removing.pins c.view.new.self.removing.pins
     c.from_residual.result c.in_err-view.field-0.0 c.from_residual.ensures.1 c.in_err-view.ensures.pins
 
+pub returns-clause-ticket : goal.returns-clause-ticket
+returns-clause-ticket g c = c.new.ensures.ticket ∙ c.in_ok-view.ensures.ticket
+
 pub returns-clause-decides : goal.returns-clause-decides
 returns-clause-decides g c h l is =
     subst (λ (o : Outcome BeginAnswer). Decides (Fronts c.view.new.self.core) h l

@@ -90,6 +90,7 @@ invariant_of-self-in-Err g c =
           (leaves_made g.D.Watched c.stage_rotation.new.disk c.make_log.new.disk next c.in-Err.ensures.files c.in-Err.ensures.untold
           c.in-Err.ensures.spare before.back.state.next_table)) c.args.self.now.lent;
       known = c.args.self.now.known;
+      pinned = c.args.self.now.pinned;
       there = λ running. absurd (let clash : Some c.in-Err.name ≡ None = running in cc);
     }
 
@@ -152,6 +153,7 @@ invariant_of-self-2 g c =
           c.args.self.now.lent;
       known = none_known before.front.oracle.last c.in-Ok-stage_rotation.version.active.entries
           (ap (λ (contents : Contents). contents.entries) c.in-Ok-stage_rotation.ensures.version.is.active);
+      pinned = c.args.self.now.pinned;
       there = λ running.
           let found = some_in c.args.self.now.removing.stock.in_use c.requires.kept in
           let up = ap (λ (s : ManifestState). s.next_table) next_is.state in

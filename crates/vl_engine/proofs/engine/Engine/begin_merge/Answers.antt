@@ -17,6 +17,7 @@ invariant_of-self g c =
       lent = before.lent;
       known = subst (λ (v : Version g.row.D-Held.Denot). are_known before.core.front.oracle.last v.active.entries ≡ true)
           (sym c.share.ensures.same) before.known;
+      pinned = before.pinned;
       there = λ running. there_told g.D.Watched g.D.Writer.Writer before.disk before.disk before.core _ before.merging before.merging
           before.removing.stock before.removing.stock (ap (λ (v : Version g.row.D-Held.Denot). v.behind) c.share.ensures.same) refl
           (omega arith) refl refl refl (leaves_none g.D.Watched before.disk before.core.back.state.next_table) (before.there running);

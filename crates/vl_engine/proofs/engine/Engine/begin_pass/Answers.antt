@@ -18,6 +18,7 @@ invariant_of-self-2 g c = record {
   lent = c.args.self.now.lent;
   known = subst (λ (v : Version g.row.D-Held.Denot). are_known c.args.self.now.core.front.oracle.last v.active.entries ≡ true)
       (sym c.share.ensures.same) c.args.self.now.known;
+  pinned = c.args.self.now.pinned;
   there = λ running. there_told g.D.Watched g.D.Writer.Writer c.args.self.now.disk c.args.self.now.disk c.args.self.now.core _
       c.args.self.now.merging c.args.self.now.merging c.args.self.now.removing.stock c.args.self.now.removing.stock
       (ap (λ (v : Version g.row.D-Held.Denot). v.behind) c.share.ensures.same) refl (omega arith) refl refl refl

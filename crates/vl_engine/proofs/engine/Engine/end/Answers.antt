@@ -5,12 +5,19 @@ use Rattle.vl_engine_laws.specs.laws.Knowing.{knows_of}
 use Rattle.vl_engine_laws.specs.laws.Represented.{represents_live}
 use Rattle.vl_engine_laws.specs.laws.Standing.{fronts_ended, stands_ended}
 use Rattle.vl_steps.specs.laws.Stepped.{fits_live}
+use Rattle.vl_space.specs.laws.Pinned.{both_ended}
 use Rattle.vl_space.specs.laws.StillRemoved.{removes_live}
 use Rattle.vl_engine_model.specs.declared.live.Live.{Live}
 use Rattle.vl_pins.specs.Pins.{ArePinsOf}
 use Rattle.vl_pins.specs.declared.pins.Pins.{Pins}
 use Rattle.vl_pins.specs.laws.PinLaws.{pins_ended}
 use Rattle.vl_engine.proofs.engine.Engine.end.Goals as goal
+
+pub invariant_of-self-clause-pinned : goal.invariant_of-self-clause-pinned
+invariant_of-self-clause-pinned g c =
+    let was = c.args.self.now in
+    both_ended was.core.front.oracle was.removing.pins c.args.ticket c.end.new.self.oracle c.end-2.new.self was.pinned
+    c.end.ensures.oracle c.end-2.ensures
 
 pub returns-clause-decides : goal.returns-clause-decides
 returns-clause-decides g c h l is =

@@ -59,6 +59,7 @@ invariant_of-self-in-Ok-lend_new g c =
           c.ready_fresh.new.merging ready.elsewhere ready.no_change.told ready.merging c.args.self.now.lent c.lend_new.new.disk
           c.in-Ok-lend_new.writer lends c.note_lent.new.merging c.note_lent.ensures;
       known = c.args.self.now.known;
+      pinned = c.args.self.now.pinned;
       there = λ running. there_drawn g.D.Watched g.D.Writer.Writer c.args.self.now.disk c.lend_new.new.disk core c.args.self.now.merging
           c.note_lent.new.merging c.args.self.now.removing.stock c.make_room_to_abandon.new.stock
           (λ none. lends.untold (ready.no_change.told ∙ none))
@@ -144,6 +145,7 @@ invariant_of-self-in-Err g c =
       lent = lent_failed g.D.Watched c.args.self.now.disk c.ready_fresh.new.disk core.back.state.next_table c.args.self.now.merging
           c.ready_fresh.new.merging ready.elsewhere ready.no_change.told ready.merging c.args.self.now.lent c.lend_new.new.disk _ lends;
       known = c.args.self.now.known;
+      pinned = c.args.self.now.pinned;
       there = λ running. absurd cc;
     }
 
@@ -272,6 +274,7 @@ invariant_of-self-in_default-ready_fresh g c =
       lent = lent_ready g.D.Watched before.disk c.ready_fresh.new.disk next before.merging c.ready_fresh.new.merging ready.elsewhere
           ready.no_change.told ready.merging before.lent;
       known = before.known;
+      pinned = before.pinned;
       there = λ running. there_roomier g.D.Watched g.D.Writer.Writer c.ready_fresh.new.disk core c.ready_fresh.new.merging
           before.removing.stock c.make_room_to_abandon.new.stock (record {
             in_use = c.make_room_to_abandon.ensures.in_use;

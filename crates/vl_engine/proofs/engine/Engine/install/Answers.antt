@@ -27,6 +27,8 @@ use Rattle.vl_space.specs.Removing.{Removes}
 use Rattle.vl_engine_laws.specs.Lent.{lent_in}
 use Rattle.vl_engine_model.specs.Jobs.{job_ended}
 use Rattle.vl_engine.proofs.StockExits.{installed}
+use Rattle.vl_pins.specs.declared.pins.Pins.{Pins}
+use Rattle.vl_space.specs.laws.Pinned.{same_beside}
 use Rattle.vl_space.specs.laws.Retired.Changing.{stays_itself}
 use Rattle.vl_engine.proofs.engine.Engine.install.Goals as goal
 
@@ -509,6 +511,20 @@ invariant_of-self-in-Ok-Some-clause-there g c running =
     (was.there running)
     (way_of g.D.Watched g.D.Writer.Writer was.disk was.core.front.halted was.merging c.args.job c.requires)
     c.abandon-in-Ok-Some.ensures.left running was.lent
+
+-- what lives is pinned still
+
+pub invariant_of-self-clause-pinned : goal.invariant_of-self-clause-pinned
+invariant_of-self-clause-pinned g c =
+    let was = c.args.self.now in
+    same_beside was.core.front.oracle was.removing.pins c.abandon.new.removing.pins was.pinned
+    (ap (λ (p : Pins). p.live.tickets) c.abandon.ensures.pins)
+
+pub invariant_of-self-in-Ok-Some-clause-pinned : goal.invariant_of-self-in-Ok-Some-clause-pinned
+invariant_of-self-in-Ok-Some-clause-pinned g c =
+    let was = c.args.self.now in
+    same_beside was.core.front.oracle was.removing.pins c.abandon-in-Ok-Some.new.removing.pins was.pinned
+    (ap (λ (p : Pins). p.live.tickets) c.abandon-in-Ok-Some.ensures.pins)
 
 -- what a halted engine leaves pinned
 

@@ -19,6 +19,7 @@ use Rattle.vl_manifest.specs.declared.manifest_log.ManifestLog.{ManifestLog}
 use Rattle.vl_manifest.specs.declared.state.ManifestState.{ManifestState}
 use Rattle.vl_memtable.specs.Contents.{Contents}
 use Rattle.vl_disk.specs.DiskState.{DiskState}
+use Rattle.vl_space.specs.laws.Pinned.{same_beside}
 use Rattle.vl_space.specs.laws.Retired.Changing.{has_some, no_logs, only_tables, stays_either, stays_itself, stays_readied}
 use Rattle.vl_engine.proofs.Retired.Flushing.{switches_stock}
 use Rattle.vl_space.specs.laws.Retired.Switched.{keeps_made, keeps_switch, made_stands, there_by}
@@ -26,6 +27,7 @@ use Rattle.vl_space.specs.laws.Retired.There.{from_use, still_but, there_quiet, 
 use Rattle.vl_space.specs.Removing.{numbers_left}
 use Rattle.vl_space.specs.Retiring.{is_idle_log}
 use Rattle.vl_pins.specs.Files.{kept_in, with_tables}
+use Rattle.vl_pins.specs.declared.pins.Pins.{Pins}
 use Rattle.vl_engine.proofs.engine.Engine.make_table.Goals as goal
 
 pub write_and_switch-requires-clause-free : goal.write_and_switch-requires-clause-free
@@ -73,6 +75,8 @@ invariant_of-self-in-Ok-write_and_switch g c =
           core.back.state.next_table wrote.files wrote.untold wrote.beside)) c.args.self.now.lent;
       known = ap (λ (m : Contents). are_known core.front.oracle.last m.entries)
           (c.with_table.ensures.active ∙ c.in-Ok.ensures.version.active) ∙ c.args.self.now.known;
+      pinned = same_beside core.front.oracle c.args.self.now.removing.pins c.switch.new.self.pins c.args.self.now.pinned
+          (ap (λ (p : Pins). p.live.tickets) (c.switch.ensures.pins ∙ c.make_room.ensures.pins));
       there = λ running.
           let stock = c.make_room.new.self.stock in
           let room = c.in-Ok-make_room.ensures.readied.room in
@@ -170,6 +174,8 @@ invariant_of-self-in-Err g c =
           (leaves_written g.D.Watched c.ready_flush.new.disk c.write_and_switch.new.disk core.back.manifest.number
           core.back.state.next_table wrote.files wrote.untold wrote.beside)) c.args.self.now.lent;
       known = c.args.self.now.known;
+      pinned = same_beside core.front.oracle c.args.self.now.removing.pins c.make_room.new.self.pins c.args.self.now.pinned
+          (ap (λ (p : Pins). p.live.tickets) c.make_room.ensures.pins);
       there = λ running. absurd (let clash : Some c.in-Err.name ≡ None = running in cc);
     }
 
@@ -225,6 +231,7 @@ invariant_of-self-in_default-live_behind g c =
       lent = still_lent g.D.Watched c.args.self.now.disk c.ready_flush.new.disk core.back.state.next_table core.back.state.next_table
           c.args.self.now.merging (omega arith) c.in-Ok.ensures.lent c.args.self.now.lent;
       known = c.args.self.now.known;
+      pinned = c.args.self.now.pinned;
       there = λ running. there_quiet g.D.Watched g.D.Writer.Writer c.args.self.now.disk c.ready_flush.new.disk core
           c.args.self.now.merging c.args.self.now.removing.stock c.in-Ok.ensures.no_change.told c.in-Ok.ensures.lent
           (c.args.self.now.there running);
@@ -239,6 +246,7 @@ invariant_of-self g c =
       lent = still_lent g.D.Watched c.args.self.now.disk c.ready_flush.new.disk core.back.state.next_table core.back.state.next_table
           c.args.self.now.merging (omega arith) c.ready_flush.ensures.lent c.args.self.now.lent;
       known = c.args.self.now.known;
+      pinned = c.args.self.now.pinned;
       there = λ running. there_quiet g.D.Watched g.D.Writer.Writer c.args.self.now.disk c.ready_flush.new.disk core
           c.args.self.now.merging c.args.self.now.removing.stock c.ready_flush.ensures.no_change.told c.ready_flush.ensures.lent
           (c.args.self.now.there running);
@@ -253,6 +261,8 @@ invariant_of-self-in_default-make_room g c =
       lent = still_lent g.D.Watched c.args.self.now.disk c.ready_flush.new.disk core.back.state.next_table core.back.state.next_table
           c.args.self.now.merging (omega arith) c.in-Ok.ensures.lent c.args.self.now.lent;
       known = c.args.self.now.known;
+      pinned = same_beside core.front.oracle c.args.self.now.removing.pins c.make_room.new.self.pins c.args.self.now.pinned
+          (ap (λ (p : Pins). p.live.tickets) c.make_room.ensures.pins);
       there = λ running. there_quiet g.D.Watched g.D.Writer.Writer c.args.self.now.disk c.ready_flush.new.disk core
           c.args.self.now.merging c.make_room.new.self.stock c.in-Ok.ensures.no_change.told c.in-Ok.ensures.lent
           (there_used g.D.Watched g.D.Writer.Writer c.args.self.now.disk core c.args.self.now.merging c.args.self.now.removing.stock

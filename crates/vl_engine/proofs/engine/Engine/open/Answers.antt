@@ -17,6 +17,8 @@ use Rattle.vl_engine_model.specs.Start.{layout_at_start}
 use Rattle.vl_seglog.specs.declared.sealed.SealedLog.{SealedLog}
 use Rattle.vl_engine_laws.specs.Found.{AreLeveled}
 use Rattle.vl_memtable.specs.Contents.{Contents}
+use Rattle.vl_oracle.specs.LiveTickets.{LiveTickets}
+use Rattle.vl_pins.specs.Same.{tickets_in}
 use Rattle.vl_recover.specs.opening.Intact.{LeavesIntact}
 use Rattle.vl_recover.specs.opening.Results.{IsOneRun}
 
@@ -156,6 +158,8 @@ invariant_of-result g c = record {
       (c.in-Ok-recover.ensures.tables state read told is_read) (c.in-Ok-recover.ensures.logs state read found told is_read))
       c.new-4.ensures.in_use c.new-4.ensures.trash;
   known = ap (λ (held : Contents). are_known c.new-2.result.oracle.last held.entries) c.new.ensures.active;
+  pinned = ap (λ (o : LiveTickets). tickets_in o.tickets) c.new-2.ensures.oracle
+      ∙ sym (ap (λ (o : LiveTickets). tickets_in o.tickets) c.new-3.ensures.live);
 }
 
 pub returns-clause-unmoved : goal.returns-clause-unmoved

@@ -13,6 +13,7 @@ use Rattle.vl_version.specs.Needed.{head_of, is_kept}
 use Rattle.vl_engine.proofs.PutLeft.{free_of, off_left, put_into, room_put, there_others}
 use Rattle.vl_engine.proofs.PutThere.{there_put}
 use Rattle.vl_space.specs.Retiring.{LeavesFiles, is_idle_log, left_of, switching}
+use Rattle.vl_space.specs.laws.Pinned.{same_beside}
 use Rattle.vl_space.specs.laws.Retired.Changing.{stays_either, stays_itself, stays_readied}
 use Rattle.vl_space.specs.laws.Retired.There.{there_quiet, there_used}
 use Rattle.vl_engine.proofs.Switching.{has_put_in, readied_self}
@@ -38,6 +39,8 @@ invariant_of-self-in_default-ready_install g c =
           (no_manifest core.back.manifest.number) wanted.no_change.told wanted.elsewhere core.back.state.next_table)
           c.args.self.now.lent;
       known = c.args.self.now.known;
+      pinned = same_beside core.front.oracle c.args.self.now.removing.pins c.make_room.new.self.pins c.args.self.now.pinned
+          (ap (λ (p : Pins). p.live.tickets) c.make_room.ensures.pins);
       there = λ running. there_quiet g.D.Watched g.D.Writer.Writer c.args.self.now.disk c.ready_install.new.disk core
           c.args.self.now.merging c.make_room.new.self.stock wanted.no_change.told
           (leaves_told g.D.Watched c.args.self.now.disk c.ready_install.new.disk (names.Manifest core.back.manifest.number)
@@ -55,6 +58,8 @@ invariant_of-self-in_default-make_room g c =
       numbered = before.numbered;
       lent = before.lent;
       known = before.known;
+      pinned = same_beside before.core.front.oracle before.removing.pins c.make_room.new.self.pins before.pinned
+          (ap (λ (p : Pins). p.live.tickets) c.make_room.ensures.pins);
       there = λ running. there_used g.D.Watched g.D.Writer.Writer before.disk before.core before.merging before.removing.stock
           c.make_room.new.self.stock (stays_either c.make_room.result before.core before.removing.stock c.make_room.new.self.stock
           _ c.lent_count-lent.result c.make_room.ensures.readied c.make_room.ensures.refused) (before.there running);
@@ -105,6 +110,8 @@ invariant_of-self-in-Ok-write_install g c =
       lent = none_open g.D.Watched c.write_install.new.disk c.apply_install.new.self.state.next_table;
       known = ap (λ m. are_known core.front.oracle.last m.entries)
           (c.with_levels.ensures.active ∙ c.in-Ok-ready_install.ensures.ready.version.active) ∙ c.args.self.now.known;
+      pinned = same_beside core.front.oracle c.args.self.now.removing.pins c.switch.new.self.pins c.args.self.now.pinned
+          (ap (λ (p : Pins). p.live.tickets) c.switch.ensures.pins ∙ ap (λ (p : Pins). p.live.tickets) c.make_room.ensures.pins);
       there = λ running.
           let made_room = there_used g.D.Watched g.D.Writer.Writer c.args.self.now.disk core c.args.self.now.merging
           c.args.self.now.removing.stock
@@ -197,6 +204,8 @@ invariant_of-self-in-Err g c =
       numbered = c.args.self.now.numbered;
       lent = none_open g.D.Watched c.write_install.new.disk core.back.state.next_table;
       known = c.args.self.now.known;
+      pinned = same_beside core.front.oracle c.args.self.now.removing.pins c.make_room.new.self.pins c.args.self.now.pinned
+          (ap (λ (p : Pins). p.live.tickets) c.make_room.ensures.pins);
       there = λ running. absurd cc;
     }
 

@@ -2,11 +2,13 @@ use Rattle.std.proofs.Common.{ap, arith, refl, subst, sym, ◌∙◌, ℕ}
 use Rattle.std.specs.Prelude.{Some}
 use Rattle.vl_compact.specs.declared.files.Lent.{Lent}
 use Rattle.vl_engine.proofs.Collected.{active_is}
+use Rattle.vl_space.specs.laws.Pinned.{same_beside}
 use Rattle.vl_space.specs.laws.Retired.Changing.{has_some, less_lent, readied_for, stays_either, stays_itself, stays_readied}
 use Rattle.vl_space.specs.Collecting.{IsTallied}
 use Rattle.vl_space.specs.declared.kept.Collecting.{Collecting}
 use Rattle.vl_space.specs.declared.kept.Removing.{Removing}
 use Rattle.vl_pins.specs.Files.{BecomesBy, HasRoom, kept_in, log_sealed}
+use Rattle.vl_pins.specs.declared.pins.Pins.{Pins}
 use Rattle.vl_pins.specs.declared.stock.Stock.{Stock}
 use Rattle.vl_front.specs.declared.front.Front.{Front}
 use Rattle.std.specs.Option.{option_map}
@@ -56,6 +58,8 @@ invariant_of-self-2 g c = record {
   numbered = c.args.self.now.numbered;
   lent = c.args.self.now.lent;
   known = c.args.self.now.known;
+  pinned = same_beside c.args.self.now.core.front.oracle c.args.self.now.removing.pins c.make_room-2.new.self.pins c.args.self.now.pinned
+      (ap (λ (p : Pins). p.live.tickets) c.make_room-2.ensures.pins);
   there = λ running. there_used g.D.Watched g.D.Writer.Writer c.args.self.now.disk c.args.self.now.core c.args.self.now.merging
       c.args.self.now.removing.stock c.make_room-2.new.self.stock
       (stays_either c.make_room-2.result c.args.self.now.core c.args.self.now.removing.stock c.make_room-2.new.self.stock 0
@@ -75,6 +79,7 @@ invariant_of-self-in-Ok-Some g c =
       numbered = c.begin_log.new.self.numbered;
       lent = c.begin_log.new.self.lent;
       known = c.begin_log.new.self.known;
+      pinned = c.begin_log.new.self.pinned;
       there = λ running. there_sealed g.D.Watched g.D.Writer.Writer c.args.self.now.disk c.begin_log.new.self.disk before
           c.begin_log.new.self.core c.args.self.now.merging stock room.in_use room.is_some before.back.next_log
           (ap (λ (f : Front). f.log.number) did.1.front)

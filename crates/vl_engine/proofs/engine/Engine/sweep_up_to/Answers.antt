@@ -26,6 +26,7 @@ invariant_of-self g c = let now = c.loop-file.self in
           c.bound-bound.result c.in-Some-take_up_to.file took.taken now.disk (now.there running) took.in_use c.remove_file.new.disk
           (Ok tt) c.in-Ok.ensures.removes now.lent;
       known = now.known;
+      pinned = now.pinned;
       there = λ _. taken_there g.D.Watched g.D.Writer.Writer now.core now.merging now.removing.stock c.take_up_to.new.self
           c.bound-bound.result c.in-Some-take_up_to.file took.taken now.disk (now.there running) took.in_use c.remove_file.new.disk
           (Ok tt) c.in-Ok.ensures.removes took.len took.capacity;
@@ -69,6 +70,7 @@ invariant_of-self-in-Err g c = let now = c.loop-file.self in
           c.bound-bound.result c.in-Some-take_up_to.file took.taken now.disk (now.there running) took.in_use c.remove_file.new.disk
           (Err removes.1) removes.2 now.lent;
       known = now.known;
+      pinned = now.pinned;
       there = λ halted. absurd (never halted);
     }
   where

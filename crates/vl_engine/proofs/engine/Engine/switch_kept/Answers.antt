@@ -22,6 +22,7 @@ invariant_of-self g c =
       numbered = before.numbered;
       lent = still_lent g.D.Watched before.disk c.stage.new.disk next next before.merging (omega arith) leaves before.lent;
       known = before.known;
+      pinned = before.pinned;
       there = λ running. there_told g.D.Watched g.D.Writer.Writer before.disk c.stage.new.disk before.core before.core
           before.merging before.merging before.removing.stock before.removing.stock refl refl (omega arith) refl refl
           c.in_default.ensures.no_change.told leaves (before.there running);
@@ -48,6 +49,7 @@ invariant_of-self-in-Ok-switch g c =
           (leaves_switch g.D.Watched c.stage.new.disk c.switch.new.disk core.back.manifest.number c.in-Ok.staged.frame.items _
           c.in-Ok-switch.ensures.switched core.back.state.next_table)) c.args.self.now.lent;
       known = c.args.self.now.known;
+      pinned = c.args.self.now.pinned;
       there = λ running. there_still g.D.Watched g.D.Writer.Writer c.args.self.now.disk c.switch.new.disk core _
           c.args.self.now.merging c.args.self.now.merging c.args.self.now.removing.stock c.args.self.now.removing.stock
           refl refl (omega arith) refl refl
@@ -119,6 +121,7 @@ invariant_of-self-in-Err g c =
           (leaves_switch g.D.Watched c.stage.new.disk c.switch.new.disk core.back.manifest.number c.in-Ok.staged.frame.items _
           c.in-Err.ensures.switched core.back.state.next_table)) c.args.self.now.lent;
       known = c.args.self.now.known;
+      pinned = c.args.self.now.pinned;
       there = λ running. absurd cc;
     }
 

@@ -13,6 +13,7 @@ use Rattle.vl_engine_model.specs.Rulings.Begin.{begun}
 use Rattle.vl_engine_model.specs.Tickets.{free_ticket, tickets_of}
 use Rattle.vl_model.specs.History.{last_number}
 use Rattle.vl_oracle.specs.LiveTickets.{LiveTickets}
+use Rattle.vl_pins.specs.laws.SameTickets.{same_free_ticket, same_many}
 use Rattle.vl_seglog.specs.declared.active.ActiveLog.{ActiveLog}
 use Rattle.vl_table.specs.KeptBlocks.{AreKept}
 use Rattle.vl_version.specs.declared.version.Version.{Version}
@@ -128,6 +129,23 @@ invariant_of-self-2-clause-known g c =
     (sym (last_begun c.begin.result core.front c.begin.new.front c.begin.ensures.ok c.begin.ensures.err))
     (subst (λ (v : Version g.row.D-Held.Denot). are_known core.front.oracle.last v.active.entries ≡ true) (sym c.share.ensures.same)
     c.args.self.now.known)
+
+-- what lives is what is pinned, by its tickets
+
+pub invariant_of-self-2-clause-pinned : goal.invariant_of-self-2-clause-pinned
+invariant_of-self-2-clause-pinned g c = c.begin.ensures.same c.args.self.now.pinned
+
+pub returns-in-Ok-begin-clause-pins : goal.returns-in-Ok-begin-clause-pins
+returns-in-Ok-begin-clause-pins g c =
+    let was = c.args.self.now in
+    c.in-Ok-begin.ensures.pins
+    (λ full. c.in-Ok-begin.ensures.room (same_many was.core.front.oracle was.removing.pins.live was.pinned ∙ full))
+
+pub returns-in-Ok-begin-clause-ticket : goal.returns-in-Ok-begin-clause-ticket
+returns-in-Ok-begin-clause-ticket g c =
+    let was = c.args.self.now in
+    c.new.ensures.ticket ∙ c.in-Ok-begin.ensures.ok.0
+    ∙ same_free_ticket was.core.front.oracle was.removing.pins.live was.pinned
 
 pub returns-in-Ok-begin-clause-removes : goal.returns-in-Ok-begin-clause-removes
 returns-in-Ok-begin-clause-removes g c h l is removes =

@@ -20,6 +20,8 @@ use Rattle.vl_memtable.specs.Lengths.{lengths_with}
 use Rattle.vl_model.specs.Keys.{Writes}
 use Rattle.vl_oracle.specs.LiveTickets as oracle
 use Rattle.vl_oracle.specs.LiveTickets.{LiveTickets}
+use Rattle.vl_pins.specs.Same.{HaveSameTickets}
+use Rattle.vl_space.specs.laws.Pinned.{both_ended}
 use Rattle.vl_seglog.specs.declared.active.ActiveLog.{ActiveLog}
 use Rattle.vl_version.specs.declared.version.Version.{Version}
 use Rattle.vl_engine.proofs.engine.Engine.write.Goals as goal
@@ -76,6 +78,11 @@ invariant_of-self-clause-known g c =
     (subst (λ (o : LiveTickets). are_known o.last before.version.active.entries ≡ true) (sym c.in_default.ensures.same.oracle)
     c.args.self.now.known)
 
+pub invariant_of-self-clause-pinned : goal.invariant_of-self-clause-pinned
+invariant_of-self-clause-pinned g c =
+    subst (λ (o : LiveTickets). HaveSameTickets o c.args.self.now.removing.pins.live) (sym c.in_default.ensures.same.oracle)
+    c.args.self.now.pinned
+
 pub invariant_of-self-in_default-append_durably-clause-lent : goal.invariant_of-self-in_default-append_durably-clause-lent
 invariant_of-self-in_default-append_durably-clause-lent g c =
     let before = c.args.self.now in
@@ -93,6 +100,14 @@ invariant_of-self-in_default-append_durably-clause-known g c =
     subst (λ (v : Version g.row.D-Held.Denot). are_known c.end.new.self.oracle.last v.active.entries ≡ true)
     (sym c.in-Ok.ensures.version)
     (subst (λ (o : LiveTickets). are_known o.last before.version.active.entries ≡ true) (sym last) c.args.self.now.known)
+
+pub invariant_of-self-in_default-append_durably-clause-pinned : goal.invariant_of-self-in_default-append_durably-clause-pinned
+invariant_of-self-in_default-append_durably-clause-pinned g c =
+    let before = c.args.self.now in
+    both_ended before.core.front.oracle before.removing.pins c.ticket-ticket.result c.end.new.self.oracle
+    c.end-in_default-append_durably.new.self before.pinned
+    (c.end.ensures.oracle ∙ ap (oracle.ended c.ticket-ticket.result) c.in-Ok.ensures.same.oracle)
+    c.end-in_default-append_durably.ensures
 
 pub invariant_of-self-2-clause-ready : goal.invariant_of-self-2-clause-ready
 invariant_of-self-2-clause-ready g c =
@@ -160,6 +175,16 @@ returns-clause-as_written g c =
         more = ap (λ (v : Version g.row.D-Held.Denot). v.active.entries) c.set_active.ensures ∙ staged.more;
       },
     )
+
+pub invariant_of-self-2-clause-pinned : goal.invariant_of-self-2-clause-pinned
+invariant_of-self-2-clause-pinned g c =
+    let before = c.args.self.now in
+    let last = before.core.front.oracle.last + 1 in
+    both_ended (oracle.advanced last before.core.front.oracle) before.removing.pins c.ticket-ticket.result c.committed.new.self.oracle
+    c.end-2.new.self before.pinned
+    (c.committed.ensures.oracle
+    ∙ ap (λ (o : LiveTickets). oracle.ended c.ticket-ticket.result (oracle.advanced (o.last + 1) o)) c.in-Ok.ensures.same.oracle)
+    c.end-2.ensures
 
 -- ---- which files can go
 

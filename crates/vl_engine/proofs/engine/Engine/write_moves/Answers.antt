@@ -34,6 +34,7 @@ invariant_of-self g c =
       lent = still_lent g.D.Watched before.disk c.stage_move.new.disk next next before.merging (omega arith)
           (c.in_default.ensures.lent next) before.lent;
       known = before.known;
+      pinned = before.pinned;
       there = λ running. there_told g.D.Watched g.D.Writer.Writer before.disk c.stage_move.new.disk before.core before.core
           before.merging before.merging before.removing.stock before.removing.stock refl refl (omega arith) refl refl
           c.in_default.ensures.no_change.told (c.in_default.ensures.lent next) (before.there running);
@@ -52,6 +53,7 @@ invariant_of-self-in_default-append_durably g c =
           (leaves_then g.D.Watched next before.disk c.stage_move.new.disk c.append_durably.new.disk (c.in-Ok.ensures.lent next)
           (c.append_durably.ensures.lent next)) before.lent;
       known = before.known;
+      pinned = before.pinned;
       there = λ running. absurd cc;
     }
 
@@ -87,6 +89,7 @@ invariant_of-self-2 g c =
       known = subst (λ (es : List Entry). are_known before.core.front.oracle.last es ≡ true)
           (sym (ap (λ (v : Version g.row.D-Held.Denot). v.active.entries) c.set_active.ensures ∙ c.in-Ok.ensures.staged.more))
           (staged_known before.core c.args.moved.now c.requires.may before.known);
+      pinned = before.pinned;
       there = λ running. there_still g.D.Watched g.D.Writer.Writer before.disk c.append_durably.new.disk before.core _
           before.merging c.note_moves.new.merging before.removing.stock before.removing.stock
           (ap (λ (v : Version g.row.D-Held.Denot). v.behind) c.set_active.ensures) c.append_durably.ensures.number (omega arith)
