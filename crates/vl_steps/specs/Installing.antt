@@ -282,14 +282,15 @@ KeepsAllBut tables old new = (before now : DiskState) → old ≡ Some before �
 
 -- ---- in memory, by what is answered
 
--- A version is made, which has one epoch more. What decides on commits stays. Of what steps on files need, the
--- manifest's number, that of the next log, and the logs that wait stay.
+-- A version is made, which has one epoch more, and no number is drawn. What decides on commits stays. Of what steps on files
+-- need, the manifest's number, those of the next log and the next table, and the logs that wait stay.
 pub record MakesVersion {H : Type 0} (before after : Core H) : Type 0 where
   pub running : before.front.halted ≡ None
   pub front : after.front ≡ before.front
   pub epoch : after.back.epoch ≡ before.back.epoch + 1
   pub manifest : after.back.manifest.number ≡ before.back.manifest.number
   pub next_log : after.back.next_log ≡ before.back.next_log
+  pub next_table : after.back.state.next_table ≡ before.back.state.next_table
   pub waiting : after.back.waiting.items ≡ before.back.waiting.items
 
 -- No epoch is left, and nothing changes.

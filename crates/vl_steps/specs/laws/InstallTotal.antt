@@ -1,8 +1,10 @@
 -- What an install leaves in memory and writes, at each of its exits, without a premise on what the engine stands for.
-use Rattle.std.specs.Prelude.{◌≡◌, ℕ, nat_le, true, List, Option, None, Some, Result, Ok, Err, OnOk}
+use Rattle.std.specs.Prelude.{◌≡◌, ℕ, nat_le, true, List, map, Option, None, Some, Result, Ok, Err, OnOk}
 use Rattle.std.specs.Option.{ForSome}
-use Rattle.std.proofs.Common.{sym, arith, ◌∙◌}
+use Rattle.std.proofs.Common.{ap, sym, arith, ◌∙◌}
 use Rattle.std.proofs.lemmas.Bool.Decides.{nat_tests}
+use Rattle.vl_back.specs.InstallStaging.{replacing_of}
+use Rattle.vl_compact.specs.declared.files.Synced.{Synced}
 use Rattle.vl_compact.specs.declared.job.Job.{Job as Merging}
 use Rattle.vl_disk.specs.declared.name.Name.{Name}
 use Rattle.vl_disk.specs.declared.watched.Watched.{Ghosts}
@@ -13,10 +15,13 @@ use Rattle.vl_steps.specs.declared.fails.InstallFail.TheVariants as install
 use Rattle.vl_steps.specs.declared.fails.InstallFail.{InstallFail}
 use Rattle.vl_engine_laws.specs.declared.kept.Core.{Core}
 use Rattle.vl_engine_laws.specs.declared.open.OpenMerge.{OpenMerge}
+use Rattle.vl_engine_laws.specs.laws.InstallDiskEdits.{install_next}
 use Rattle.vl_engine_model.specs.Rulings.Install.{race}
 use Rattle.vl_engine_model.specs.declared.job.Job.{Job}
+use Rattle.vl_manifest.specs.declared.state.ManifestState.{ManifestState}
 use Rattle.vl_model.specs.Conflicts.{Named}
 use Rattle.vl_model.specs.Limits.{max_epoch}
+use Rattle.vl_table.specs.Tables.{number_of}
 use Rattle.vl_version.specs.declared.base.Base.{Base}
 
 module _ {D H R W : Type 0} (g : Ghosts D) (bytes : H → Option (List ℕ)) (w : Writers W) {s : _}
@@ -30,6 +35,10 @@ module _ {D H R W : Type 0} (g : Ghosts D) (bytes : H → Option (List ℕ)) (w 
     epoch = did.1.back.version;
     manifest = did.1.back.number;
     next_log = did.1.back.next_log;
+    next_table = ap (λ (x : ManifestState). x.next_table) did.1.back.state
+        ∙ install_next (replacing_of before.back (map number_of job.inputs.tables.items)
+        (map (λ (t : Synced W s). t.number) job.made.items) did.1.ready.levels.level did.1.ready.levels.position did.1.is_ready.gone)
+        before.back.state did.1.ready.staged.state did.1.is_ready.staged.says;
     waiting = did.1.back.waiting;
   }
   core_by none (Err (install.Halted name)) did = absurd did
