@@ -1,7 +1,7 @@
 -- What a disk holds while a script is answered, and what a crash leaves of it. `holds` says what a disk holds of a state,
 -- `shows` what an image shows of a history at a number, and `stops` what a line leaves that was stopped: all three are
 -- parameters throughout.
-use Rattle.std.specs.Prelude.{◌≡◌, ◌⊎◌, ℕ, ◌<◌, ◌≤◌, nat_lt, Bool, List, [], ◌∷◌, None, Some, Err, Result, OnOk, IsTrue}
+use Rattle.std.specs.Prelude.{◌≡◌, ◌⊎◌, ℕ, ◌+◌, ◌-◌, ◌<◌, ◌≤◌, nat_lt, Bool, List, [], ◌∷◌, None, Some, Result, OnOk, IsTrue}
 use Rattle.std.specs.List.{filter}
 use Rattle.vl_engine_model.specs.declared.file_name.Retired.{Retired}
 use Rattle.vl_engine_model.specs.declared.layout.Layout.{Layout}
@@ -19,9 +19,8 @@ pub use Rattle.vl_script_model.specs.Between.{Holding}
 use Rattle.vl_script_model.specs.Between.{HasPassed, Showing, ShowsBetween, Stopping}
 use Rattle.vl_script_model.specs.Endings.{CutsAnswer, IsBetweenLines, TheDisk, TheReader, culprit_of}
 use Rattle.vl_script_model.specs.Runs.{Course}
-use Rattle.vl_script_model.specs.Halts.{HaltsByDisk, HaltsByRead}
+use Rattle.vl_script_model.specs.Halts.{HaltsBeside, HaltsByDisk}
 use Rattle.vl_script_model.specs.declared.fails.Halt.{Halt}
-use Rattle.vl_script_model.specs.declared.fails.Halt.TheVariants as why
 use Rattle.vl_script_model.specs.declared.ending.Ending.TheVariants.{NoMemory}
 
 -- P holds of whatever a crash leaves of this disk, if no torn bytes spell a frame by chance
@@ -77,18 +76,28 @@ was_needed r = nat_lt 0 r.epoch
 abbrev pub without_merges : Layout → Layout
 without_merges l = record l { live = []; job = None; next_table = 0; retired = filter was_needed l.retired }
 
--- It holds the commits and the layout of a state and nothing else, whatever changing calls it was asked for. Files of merges that
--- were given up may stand beside it.
-abbrev pub HoldsCommits : {D : Type 0} → Ghosts D → Holding → State → D → Type 0
-HoldsCommits g holds t disk =
-    (s : State) × ((history_of s) ≡ (history_of t)) × (without_merges s.store.layout ≡ without_merges t.store.layout)
-    × Tells g disk (holds s)
-
--- and it was asked for those that the state counts; the numbers of its files are bounded as there
+-- It holds a state but for what lives, and was asked for the changing calls that the state counts; the numbers of its files are
+-- bounded as there.
 abbrev pub HoldsCounted : {D : Type 0} → Ghosts D → Holding → State → D → Type 0
 HoldsCounted g holds t disk =
     (s : State) × ((history_of s) ≡ (history_of t)) × (without_live s.store.layout ≡ without_live t.store.layout)
     × (s.calls ≡ t.calls) × (s.files ≡ t.files) × HoldsState g holds s disk
+
+-- It holds the commits and the layout of a state, and nothing else but files of merges that were given up, which a line made that
+-- leads to another state.
+pub record HoldsCommits {D : Type 0} (g : Ghosts D) (holds : Holding) (t most : State) (disk : D) : Type 0 where
+  pub now : State
+  pub held : HoldsState g holds now disk
+  pub history : history_of now ≡ history_of t
+  pub layout : without_merges now.store.layout ≡ without_merges t.store.layout
+  -- So many are these, no more than the line makes: each took the next number, and a changing call.
+  pub given : ℕ
+  pub few : given ≤ most.files - t.files
+  pub numbers : now.store.layout.next_table ≡ t.store.layout.next_table + given
+  pub files : now.files ≡ t.files + given
+  pub calls : now.calls ≡ after_calls given t.calls
+  -- Where the line makes none, the disk holds the state as it was.
+  pub unchanged : most.files ≡ t.files → HoldsCounted g holds t disk
 
 -- Whatever a crash leaves at any moment from the old disk to the new one shows at least the one history and at most the
 -- other.
@@ -122,12 +131,9 @@ pub record LeadsTo {D T : Type 0} (g : Ghosts D) (holds : Holding) (shows : Show
     (old new : D) (before after : State) (result : Result T Halt) : Type 0 where
   -- where it was answered the disk holds the state after it;
   pub answered : OnOk result (HoldsState g holds after new)
-  -- where memory ran out it holds the commits before and no more, whatever calls came first;
-  pub no_commit : result ≡ Err why.NoMemory → HoldsCommits g holds before new
-  -- where a read failed, or a write beside the disk, it holds these too; and where the line would make no file, it still holds the
-  -- state before, of which nothing was changed;
-  pub unread : HaltsByRead result → HoldsCommits g holds before new
-  pub unchanged : HaltsByRead result → after.files ≡ before.files → HoldsState g holds before new
+  -- where memory ran out, or a read failed, or a write beside the disk, it holds the commits before and no more, and is as it was
+  -- where the line makes no file;
+  pub short : HaltsBeside result → HoldsCommits g holds before after new
   -- it tells its bytes, and a store may be opened on them, also where it failed;
   pub tells : Tells g new MayOpen
   -- what a crash meanwhile leaves shows the commits before, or those after it;
@@ -176,15 +182,13 @@ pub record DiskEnds {D : Type 0} (g : Ghosts D) (holds : Holding) (shows : Showi
   -- one line more
   pub without_fault : (Rose (g.faults old) (g.faults new) → ⊥)
       → unopened
-      ⊎ (HoldsCommits g holds (last_state run.first run.answered) new ⊎ HoldsCommits g holds run.most new)
-  -- where the run ended by want of memory, it wasn't opened, or holds just the acknowledged ones
+      ⊎ (HoldsCommits g holds (last_state run.first run.answered) run.most new ⊎ HoldsCommits g holds run.most run.most new)
+  -- where the run ended by want of memory, it wasn't opened, or holds just the acknowledged ones; and is as the lines before left it
+  -- where the next line makes no file
   pub no_memory : run.ending ≡ NoMemory
-      → unopened ⊎ HoldsCommits g holds (last_state run.first run.answered) new
-  -- where a line's read failed, or a write beside the disk, it holds just the acknowledged ones; and where the line would make no
-  -- file, after just the calls of the lines before
-  pub unread : culprit_of run.ending ≡ TheReader → HoldsCommits g holds (last_state run.first run.answered) new
-  pub unchanged : culprit_of run.ending ≡ TheReader → run.most.files ≡ (last_state run.first run.answered).files
-      → HoldsCounted g holds (last_state run.first run.answered) new
+      → unopened ⊎ HoldsCommits g holds (last_state run.first run.answered) run.most new
+  -- so it is where a line's read failed, or a write beside the disk
+  pub unread : culprit_of run.ending ≡ TheReader → HoldsCommits g holds (last_state run.first run.answered) run.most new
   -- where the run ended between two lines, the disk holds just the acknowledged ones, after just the calls of their lines
   pub between_lines : IsBetweenLines (culprit_of run.ending)
       → HoldsCounted g holds (last_state run.first run.answered) new

@@ -21,6 +21,15 @@ HaltsByRead (Err (Read name)) = Unit {0}
 HaltsByRead (Err (Halted name)) = Unit {0}
 HaltsByRead (Err (Damaged name place)) = Unit {0}
 
+-- memory ran out, or it was a read as above: whatever it was, no call on the disk failed
+abbrev pub HaltsBeside : {T : Type 0} → Result T Halt → Type 0
+HaltsBeside (Ok answer) = ⊥
+HaltsBeside (Err NoMemory) = Unit {0}
+HaltsBeside (Err (Disk name)) = ⊥
+HaltsBeside (Err (Read name)) = Unit {0}
+HaltsBeside (Err (Halted name)) = Unit {0}
+HaltsBeside (Err (Damaged name place)) = Unit {0}
+
 -- a read met damage
 abbrev pub HaltsByDamage : {T : Type 0} → Result T Halt → Type 0
 HaltsByDamage (Ok answer) = ⊥

@@ -2,6 +2,7 @@
 pub mod AskingLaws
 pub mod Betweens
 pub mod Calling
+pub mod Counting
 pub mod DiskSteps
 pub mod Ends
 pub mod Explained

@@ -48,7 +48,7 @@ use Rattle.vl_replay_laws.specs.Standing.{open_in}
 use Rattle.vl_script.specs.declared.answer.Answer.{Answer}
 use Rattle.vl_script.specs.declared.answer.Answer.TheVariants as answers
 use Rattle.vl_script_model.specs.laws.Betweens.{extends_same}
-use Rattle.vl_script_model.specs.laws.DiskSteps.{IsWatched, opens_again, rests_until}
+use Rattle.vl_script_model.specs.laws.DiskSteps.{IsWatched, opens_again, own_commits, rests_until}
 use Rattle.vl_script_model.specs.laws.HeldDisk.{stored_by}
 use Rattle.vl_script_model.specs.laws.ShownDisk.{shown_stays, stored_exactly}
 use Rattle.vl_replay.proofs.CarryingLists.{next_drawn}
@@ -96,9 +96,7 @@ unplanned_leads {D} g watched old new same choice s name held =
     let after : State = state_after s (line_for choice name) in
     subst (λ (d : D). LeadsTo {T = Answer} g IsStored Shown IsStopped old d s after (Err halts.NoMemory)) (sym same) (record {
       answered = tt;
-      no_commit = λ out. (s, refl, refl, held.there);
-      unread = λ by. absurd by;
-      unchanged = λ by still. absurd by;
+      short = λ by. own_commits g IsStored s after old held;
       tells = opens_again g watched IsStored Shown IsStopped shown_stays stored_exactly s old held;
       through = rests_until g watched IsStored Shown IsStopped shown_stays stored_exactly s (history_of after)
           (extends_same (history_of s) (history_of after)
@@ -262,9 +260,7 @@ module _ {D W H R S : Type 0} (g : Ghosts D) (watched : IsWatched g) (w : Writer
                 (λ state told. subst (AreNumberedUpTo (s.files + merged.count))
                 (some_same (drawn.held fine).there.0 state (sym (drawn.held fine).there.1 ∙ told)) its.numbered);
           }));
-      no_commit = λ out. absurd cc;
-      unread = λ by. absurd by;
-      unchanged = λ by still. absurd by;
+      short = λ by. absurd by;
       tells = drawn.tells;
       through = subst (λ (p : Commits). CrashesShow g Shown old new h (history_in p))
           (sym (commits_for choice s name)) drawn.through;

@@ -72,7 +72,7 @@ use Rattle.vl_version.specs.declared.base.Base.{Base}
 use Rattle.vl_script_model.specs.Between.{ShowsBetween}
 use Rattle.vl_script_model.specs.Durable.{CarriesOut, CrashesShow, HoldsCommits, HoldsState, LeadsTo, StopsWithin}
 use Rattle.vl_script_model.specs.Failing.{IsTableOf}
-use Rattle.vl_script_model.specs.Halts.{HaltsByDisk, HaltsByRead}
+use Rattle.vl_script_model.specs.Halts.{HaltsBeside, HaltsByDisk, HaltsByRead}
 use Rattle.vl_replay.specs.Handed.{CanHandIn}
 use Rattle.vl_replay_laws.specs.Replaying.{IsWaiting, MakesStep, Merges, StandsIn, TakesPlanned, Waits, state_by}
 use Rattle.vl_script_model.specs.Sequential.{IsPrinted, State, history_of, state_after, step_to, without_lengths}
@@ -92,7 +92,7 @@ use Rattle.vl_script.specs.declared.answer.Answer.TheVariants as answers
 use Rattle.vl_script.specs.declared.line.Line.TheVariants as lines
 use Rattle.vl_script_model.specs.laws.Betweens.{extends_itself}
 use Rattle.vl_replay_laws.specs.laws.Disk.Carried.{quiet_carries}
-use Rattle.vl_script_model.specs.laws.DiskSteps.{IsWatched}
+use Rattle.vl_script_model.specs.laws.DiskSteps.{IsWatched, own_commits}
 use Rattle.vl_script_model.specs.laws.HeldDisk.{stored_by}
 use Rattle.vl_replay_laws.specs.laws.Disk.Stepped.{at_each, at_most}
 use Rattle.vl_replay.proofs.Merges.Handing.{handed_back, handed_in}
@@ -651,15 +651,17 @@ module _ {D H R S W : Type 0} (g : Ghosts D) (w : Writers W) (bytes : H → Opti
     answered_of (Err (uninstalled.Disk file)) did = tt
 
     -- where memory ran out, nothing was changed
-    short_of : (result : Result (Unit {0}) (InstallFail (Base H R) H W k)) → DidInstall result → install_answer result ≡ Err why.NoMemory
-        → HoldsCommits g IsStored s new
-    short_of (Ok done) did out = absurd cc
-    short_of (Err (uninstalled.Halted file)) did out = absurd cc
-    short_of (Err (uninstalled.Raced key number)) did out = absurd cc
-    short_of (Err (uninstalled.Exhausted counter)) did out = absurd cc
-    short_of (Err (uninstalled.NoMemory job)) did out =
-        (s, refl, refl, (held.there.0, (did.untouched tt).told ∙ held.there.1, held.there.2))
-    short_of (Err (uninstalled.Disk file)) did out = absurd cc
+    short_of : (result : Result (Unit {0}) (InstallFail (Base H R) H W k)) → DidInstall result → HaltsBeside (install_answer result)
+        → HoldsCommits g IsStored s behind new
+    short_of (Ok done) did by = absurd by
+    short_of (Err (uninstalled.Halted file)) did by = absurd (install_sound (Err (uninstalled.Halted file)) did by)
+    short_of (Err (uninstalled.Raced key number)) did by = absurd by
+    short_of (Err (uninstalled.Exhausted counter)) did by = absurd by
+    short_of (Err (uninstalled.NoMemory job)) did by = own_commits g IsStored s behind new (record {
+      calls = (did.untouched tt).calls ∙ held.calls;
+      there = (held.there.0, (did.untouched tt).told ∙ held.there.1, held.there.2);
+    })
+    short_of (Err (uninstalled.Disk file)) did by = absurd by
 
     failed_of : (result : Result (Unit {0}) (InstallFail (Base H R) H W k)) → HaltsByDisk (install_answer result) → InstallFailed result
     failed_of (Ok done) halts = halts
@@ -673,9 +675,7 @@ module _ {D H R S W : Type 0} (g : Ghosts D) (w : Writers W) (bytes : H → Opti
         → LeadsTo g IsStored Shown IsStopped old new s behind (install_answer result)
     leads result did = record {
       answered = answered_of result did;
-      no_commit = short_of result did;
-      unread = λ halts. absurd (install_sound result did halts);
-      unchanged = λ halts same. absurd (install_sound result did halts);
+      short = short_of result did;
       tells = (carried result did).again stands.running;
       through = through result did;
       stopped = λ halts clean. stops_within result did (did.stops (failed_of result halts));

@@ -160,7 +160,6 @@ module _ {D R : Type 0} (g : Ghosts D) (watched : IsWatched g) (holds : Holding)
               without_fault = λ sound. inl (kept sound);
               no_memory = λ out. inl (kept_out out);
               unread = λ by. absurd (none_read by);
-              unchanged = λ by same. absurd (none_read by);
               between_lines = λ between. absurd (none between);
               answer_cut = λ cuts. absurd (none_cut cuts);
               again = tells p q;

@@ -19,6 +19,7 @@ use Rattle.vl_script_model.specs.Durable.{DiskEnds, GoesAlong, CrashesShow, Hold
 use Rattle.vl_script_model.specs.Durable.{Leaves, LeavesItsHistory, StaysShown, StopsWithin, Tells, without_merges}
 use Rattle.vl_script_model.specs.declared.ending.Ending.{Ending}
 use Rattle.vl_script_model.specs.declared.ending.Ending.TheVariants.{NoMemory}
+use Rattle.vl_engine_model.specs.declared.layout.Layout.{Layout}
 use Rattle.vl_script_model.specs.laws.Betweens.{extends_itself, extends_then, between_wider, between_exactly}
 use Rattle.vl_script_model.specs.laws.Ends.{LeavesDisk}
 use Rattle.vl_script_model.specs.laws.Extending.{line_extends}
@@ -84,6 +85,27 @@ pub record IsWatched {D : Type 0} (g : Ghosts D) : Type 0 where
 pub leaves_weaker : (P Q : Image → Type 0) → ((image : Image) → P image → Q image) → (state : DiskState) → Leaves P state → Leaves Q state
 leaves_weaker P Q weaker state leaves image left = weaker image (leaves image left)
 
+-- what holds a state but for what lives holds its commits, whatever a line would make
+pub counted_commits : {D : Type 0} (g : Ghosts D) (holds : Holding) (s most : State) (disk : D) → HoldsCounted g holds s disk
+    → HoldsCommits g holds s most disk
+counted_commits g holds s most disk (u, history, layout, calls, files, held) = record {
+  now = u;
+  held = held;
+  history = history;
+  layout = ap without_merges layout;
+  given = 0;
+  few = omega arith;
+  numbers = (let same = ap (λ (l : Layout). l.next_table) layout in omega (arith, same));
+  files = omega (arith, files);
+  calls = calls;
+  unchanged = λ same. (u, history, layout, calls, files, held);
+}
+
+-- and so does what holds the state
+pub own_commits : {D : Type 0} (g : Ghosts D) (holds : Holding) (s most : State) (disk : D) → HoldsState g holds s disk
+    → HoldsCommits g holds s most disk
+own_commits g holds s most disk held = counted_commits g holds s most disk (s, refl, refl, refl, refl, held)
+
 pub rose_earlier : (f a b : ℕ) → f ≤ a → Rose a b → Rose f b
 rose_earlier f a b le rose = omega arith
 
@@ -121,10 +143,6 @@ module _ {D : Type 0} (g : Ghosts D) (watched : IsWatched g) (holds : Holding) (
   pub it_holds : (s : State) (disk : D) → HoldsState g holds s disk → HoldsCounted g holds s disk
   it_holds s disk held = (s, refl, refl, refl, refl, held)
 
-  -- whatever was counted
-  pub its_commits : (s : State) (disk : D) → HoldsCounted g holds s disk → HoldsCommits g holds s disk
-  its_commits s disk (u, history, layout, calls, files, held) = (u, history, ap without_merges layout, held.there)
-
   -- a store may be opened on it
   pub opens_again : (s : State) (disk : D) → HoldsState g holds s disk → Tells g disk MayOpen
   opens_again s disk held = (held.there.0, held.there.1, exactly.may_open s held.there.0 held.there.2)
@@ -138,21 +156,19 @@ module _ {D : Type 0} (g : Ghosts D) (watched : IsWatched g) (holds : Holding) (
   -- the run ended before a line was answered
   pub ends_within : (old new : D) (ending : Ending) (least most : State)
       → CrashesShow g shows old new (history_of least) (history_of most) → Tells g new MayOpen
-      → ((Rose (g.faults old) (g.faults new) → ⊥) → HoldsCommits g holds least new ⊎ HoldsCommits g holds most new)
-      → (ending ≡ NoMemory → HoldsCommits g holds least new)
+      → ((Rose (g.faults old) (g.faults new) → ⊥) → HoldsCommits g holds least most new ⊎ HoldsCommits g holds most most new)
+      → (ending ≡ NoMemory → HoldsCommits g holds least most new)
       → (IsBetweenLines (culprit_of ending) → HoldsCounted g holds least new) → (CutsAnswer ending → HoldsCounted g holds most new)
-      → (culprit_of ending ≡ TheReader → HoldsCommits g holds least new)
-      → (culprit_of ending ≡ TheReader → most.files ≡ least.files → HoldsCounted g holds least new)
+      → (culprit_of ending ≡ TheReader → HoldsCommits g holds least most new)
       → (culprit_of ending ≡ TheDisk → IsTrue g.fails_cleanly → StopsWithin g stops least most old new)
       → DiskEnds g holds shows stops ⊥ ⊥ old new (record { ending = ending; first = least; answered = []; most = most })
-  ends_within old new ending least most goes tells settled no_memory whole cut unread unchanged stopped = record {
+  ends_within old new ending least most goes tells settled no_memory whole cut unread stopped = record {
     crash_during = goes;
     line_by_line = tt;
     crash_after = at_end old new (history_of least) (history_of most) goes tells;
     without_fault = λ sound. inr (settled sound);
     no_memory = λ out. inr (no_memory out);
     unread = unread;
-    unchanged = unchanged;
     between_lines = whole;
     answer_cut = cut;
     again = tells;
@@ -165,8 +181,8 @@ module _ {D : Type 0} (g : Ghosts D) (watched : IsWatched g) (holds : Holding) (
       → (CutsAnswer ending → HoldsCounted g holds most new) → (culprit_of ending ≡ TheDisk → ⊥)
       → DiskEnds g holds shows stops ⊥ ⊥ old new (record { ending = ending; first = least; answered = []; most = most })
   ends_unchanged old new ending least most goes tells held cut sound = ends_within old new ending least most goes tells
-      (λ sound. inl (its_commits least new held)) (λ out. its_commits least new held) (λ whole. held) cut
-      (λ by. its_commits least new held) (λ by same. held) (λ fault. absurd (sound fault))
+      (λ sound. inl (counted_commits g holds least most new held)) (λ out. counted_commits g holds least most new held)
+      (λ whole. held) cut (λ by. counted_commits g holds least most new held) (λ fault. absurd (sound fault))
 
   -- the disk was left alone
   pub ends_untouched : (s most : State) → Extends (history_of s) (history_of most) → (disk : D) (ending : Ending)
@@ -188,10 +204,9 @@ module _ {D : Type 0} (g : Ghosts D) (watched : IsWatched g) (holds : Holding) (
         crash_during = goes;
         line_by_line = (new, record { before = goes; held = there; steady = steady; behind = rest }, tt);
         crash_after = at_end new new (history_of e.after) (history_of e.after) rest (opens_again e.after new held);
-        without_fault = λ sound. inr (inl (its_commits e.after new there));
-        no_memory = λ out. inr (its_commits e.after new there);
-        unread = λ by. its_commits e.after new there;
-        unchanged = λ by same. there;
+        without_fault = λ sound. inr (inl (own_commits g holds e.after e.after new held));
+        no_memory = λ out. inr (own_commits g holds e.after e.after new held);
+        unread = λ by. own_commits g holds e.after e.after new held;
         between_lines = λ whole. there;
         answer_cut = λ cuts. there;
         again = opens_again e.after new held;
@@ -237,8 +252,9 @@ module _ {D : Type 0} (g : Ghosts D) (watched : IsWatched g) (holds : Holding) (
       (record { ending = ending; first = start; answered = whole; most = most })
   ends_later unopened failed_to_open first old new ending start before most answered whole lower upper steady so_far longer same ends =
       let earlier : g.faults first ≤ g.faults old = omega (arith, steady) in
-      let moved : HoldsCommits g holds (last_state before answered) new → HoldsCommits g holds (last_state start whole) new =
-      λ (held : HoldsCommits g holds (last_state before answered) new). subst (λ (s : State). HoldsCommits g holds s new) same held in
+      let moved : HoldsCommits g holds (last_state before answered) most new → HoldsCommits g holds (last_state start whole) most new =
+      λ (held : HoldsCommits g holds (last_state before answered) most new).
+      subst (λ (s : State). HoldsCommits g holds s most new) same held in
       let counted : HoldsCounted g holds (last_state before answered) new → HoldsCounted g holds (last_state start whole) new =
       λ (held : HoldsCounted g holds (last_state before answered) new). subst (λ (s : State). HoldsCounted g holds s new) same held in
       record {
@@ -253,17 +269,16 @@ module _ {D : Type 0} (g : Ghosts D) (watched : IsWatched g) (holds : Holding) (
         );
         without_fault = λ sound. ⊎_elim
             (λ (never : ⊥). absurd never)
-            (λ (there : HoldsCommits g holds (last_state before answered) new ⊎ HoldsCommits g holds most new). inr (⊎_elim
-            (λ (held : HoldsCommits g holds (last_state before answered) new). inl (moved held))
-            (λ (held : HoldsCommits g holds most new). inr held)
+            (λ (there : HoldsCommits g holds (last_state before answered) most new ⊎ HoldsCommits g holds most most new). inr (⊎_elim
+            (λ (held : HoldsCommits g holds (last_state before answered) most new). inl (moved held))
+            (λ (held : HoldsCommits g holds most most new). inr held)
             there))
             (ends.without_fault (λ rose. sound (rose_earlier (g.faults first) (g.faults old) (g.faults new) earlier rose)));
         no_memory = λ out. ⊎_elim
             (λ (never : ⊥). absurd never)
-            (λ (held : HoldsCommits g holds (last_state before answered) new). inr (moved held))
+            (λ (held : HoldsCommits g holds (last_state before answered) most new). inr (moved held))
             (ends.no_memory out);
         unread = λ by. moved (ends.unread by);
-        unchanged = λ by same_files. counted (ends.unchanged by (same_files ∙ sym (ap (λ (s : State). s.files) same)));
         between_lines = λ between. counted (ends.between_lines between);
         answer_cut = ends.answer_cut;
         again = ends.again;

@@ -1,7 +1,7 @@
 -- Where memory ran out, no disk failed.
 use Rattle.std.proofs.Common.{◌≡◌, Result, Ok, Err, sym, ◌∙◌, ap, subst}
 use Rattle.std.specs.Prelude.{IfErr, IsErrAnd}
-use Rattle.vl_script_model.specs.Halts.{HaltsByDisk, HaltsByRead, ReadsWell}
+use Rattle.vl_script_model.specs.Halts.{HaltsBeside, HaltsByDisk, HaltsByRead, ReadsWell}
 use Rattle.vl_script_model.specs.declared.fails.Halt.{Halt}
 use Rattle.vl_script_model.specs.declared.fails.Halt.TheVariants as why
 
@@ -46,6 +46,28 @@ by_read_still {U = U} carried (Err (why.Read name)) halt was is by = subst (λ (
 by_read_still {U = U} carried (Err (why.Halted name)) halt was is by = subst (λ (r : Result U Halt). HaltsByRead r) (ap Err is ∙ sym was) tt
 by_read_still {U = U} carried (Err (why.Damaged name place)) halt was is by = subst
     (λ (r : Result U Halt). HaltsByRead r) (ap Err is ∙ sym was) tt
+
+pub beside_still : {T U : Type 0} (carried : Result U Halt) (result : Result T Halt) (halt : Halt) → carried ≡ Err halt
+    → IsErrAnd result (λ other. other ≡ halt) → HaltsBeside result → HaltsBeside carried
+beside_still carried (Ok answer) halt was is by = absurd by
+beside_still {U = U} carried (Err why.NoMemory) halt was is by = subst (λ (r : Result U Halt). HaltsBeside r) (ap Err is ∙ sym was) tt
+beside_still carried (Err (why.Disk name)) halt was is by = absurd by
+beside_still {U = U} carried (Err (why.Read name)) halt was is by = subst (λ (r : Result U Halt). HaltsBeside r) (ap Err is ∙ sym was) tt
+beside_still {U = U} carried (Err (why.Halted name)) halt was is by = subst (λ (r : Result U Halt). HaltsBeside r) (ap Err is ∙ sym was) tt
+beside_still {U = U} carried (Err (why.Damaged name place)) halt was is by = subst
+    (λ (r : Result U Halt). HaltsBeside r) (ap Err is ∙ sym was) tt
+
+-- where a read failed, or memory ran out, the line was halted beside the disk
+pub read_beside : {T : Type 0} (result : Result T Halt) → HaltsByRead result → HaltsBeside result
+read_beside (Ok answer) by = by
+read_beside (Err why.NoMemory) by = tt
+read_beside (Err (why.Disk name)) by = by
+read_beside (Err (why.Read name)) by = tt
+read_beside (Err (why.Halted name)) by = tt
+read_beside (Err (why.Damaged name place)) by = tt
+
+pub out_beside : {T : Type 0} (result : Result T Halt) → result ≡ Err why.NoMemory → HaltsBeside result
+out_beside {T} result out = subst (λ (r : Result T Halt). HaltsBeside r) (sym out) tt
 
 -- nor does one then meet anything
 pub out_reads_well : {T : Type 0} (result : Result T Halt) → IfErr result (λ halt. halt ≡ why.NoMemory) → ReadsWell result

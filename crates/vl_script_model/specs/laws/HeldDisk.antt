@@ -10,6 +10,7 @@ use Rattle.vl_engine_model.specs.Tidy.{IsTidy}
 use Rattle.vl_engine_model.specs.declared.layout.Layout.{Layout}
 use Rattle.vl_manifest.specs.declared.state.ManifestState.{ManifestState}
 use Rattle.vl_model.specs.History.{History}
+use Rattle.vl_script_model.specs.Durable.{without_merges}
 use Rattle.vl_script_model.specs.Sequential.{State, history_of}
 use Rattle.vl_script_model.specs.Stopped.{AreNumberedUpTo, GivesUpTo}
 use Rattle.vl_script_model.specs.Stored.{IsStored}
@@ -53,3 +54,79 @@ stored_by bytes core told t k m layout history openable running represents withi
           (numbered its.state its.told_is)
           (record { log = omega (arith, state, within, next, log); table = omega (arith, given, table) }) log table,
     )
+
+-- ---- merges that were given up
+
+-- what lives, and what merges leave beside a layout, isn't on the disk
+base_beside : (b : Base) (l : Layout) (h : History) → IsBase b l h → IsBase b (without_merges l) h
+base_beside b l h is = record {
+  numbered = is.numbered;
+  made = is.made;
+  goes = is.goes;
+  levels = is.levels;
+  frozen = is.frozen;
+  led = is.led;
+  keep = is.keep;
+  since = is.since;
+  gone = is.gone;
+  spared = is.spared;
+  covered = is.covered;
+  format = is.format;
+}
+
+base_again : (b : Base) (l : Layout) (h : History) → IsBase b (without_merges l) h → IsBase b l h
+base_again b l h is = record {
+  numbered = is.numbered;
+  made = is.made;
+  goes = is.goes;
+  levels = is.levels;
+  frozen = is.frozen;
+  led = is.led;
+  keep = is.keep;
+  since = is.since;
+  gone = is.gone;
+  spared = is.spared;
+  covered = is.covered;
+  format = is.format;
+}
+
+holds_beside : (b : Base) (l : Layout) (disk : DiskState) → Holds b l disk → Holds b (without_merges l) disk
+holds_beside b l disk held = record {
+  base = held.base;
+  files = record { logs = held.files.logs; tables = held.files.tables; flushed = held.files.flushed };
+  durable = held.durable;
+  lawful = held.lawful;
+}
+
+holds_again : (b : Base) (l : Layout) (disk : DiskState) → Holds b (without_merges l) disk → Holds b l disk
+holds_again b l disk held = record {
+  base = held.base;
+  files = record { logs = held.files.logs; tables = held.files.tables; flushed = held.files.flushed };
+  durable = held.durable;
+  lawful = held.lawful;
+}
+
+-- A disk that holds a state holds another one, which is beside it but for what lives and for merges that were given up.
+pub stored_beside : (s t : State) (disk : DiskState) → history_of t ≡ history_of s
+    → without_merges t.store.layout ≡ without_merges s.store.layout
+    → t.store.layout.next_table ≡ s.store.layout.next_table → t.files ≡ s.files → IsTrue s.openable
+    → IsTidy (layout_logs s.store.layout) s.store.layout (history_of s) → IsStored t disk → IsStored s disk
+stored_beside s t disk history beside numbers files openable tidy stored =
+    let l : Layout = s.store.layout in
+    let log : t.store.layout.next_log ≡ l.next_log = ap (λ (m : Layout). m.next_log) beside in
+    record {
+      openable = openable;
+      base = stored.base;
+      is_base = subst (IsBase stored.base l) history (base_again stored.base l (history_of t)
+          (subst (λ (m : Layout). IsBase stored.base m (history_of t)) beside
+          (base_beside stored.base t.store.layout (history_of t) stored.is_base)));
+      holds = holds_again stored.base l disk (subst (λ (m : Layout). Holds stored.base m disk) beside
+          (holds_beside stored.base t.store.layout disk stored.holds));
+      tidy = tidy;
+      next_table = subst (λ (n : ℕ). stored.base.state.next_table ≤ n) numbers stored.next_table;
+      begun = subst (λ (n : ℕ). AreBegun stored.base.state.next_table n disk) numbers stored.begun;
+      numbered = subst (λ (n : ℕ). AreNumberedUpTo n disk) files stored.numbered;
+      next = subst (λ (n : ℕ). GivesUpTo n stored.base.state) files stored.next;
+      next_log = (let le = stored.next_log in omega (arith, le, log, files));
+      next_drawn = (let le = stored.next_drawn in omega (arith, le, numbers, files));
+    }

@@ -51,21 +51,23 @@ use Rattle.vl_script.specs.declared.line.Line.TheVariants.{Begin, View, Get, Set
 use Rattle.vl_script.specs.declared.line.Line.TheVariants.{Delete, Commit, Drop, Rotate, Flush, Keep, Plan, Drain, Install}
 use Rattle.vl_script.specs.declared.line.Line.TheVariants.{Sweep, Stats, Pick, Batch, Move}
 
--- the ruling on a step leaves the layout unless it is answered by a number
-record Stays (l : Layout) (r : Ruling StepAnswer) : Type 0 where
-  stays : ((n : ℕ) → step_told r.answer ≡ store.Number n → ⊥) → r.layout ≡ l
+-- the ruling on a step leaves the layout, and makes no call, unless it is answered by a number
+pub record Stays (l : Layout) (r : Ruling StepAnswer) : Type 0 where
+  pub stays : ((n : ℕ) → step_told r.answer ≡ store.Number n → ⊥) → r.layout ≡ l
+  pub calls : ((n : ℕ) → step_told r.answer ≡ store.Number n → ⊥) → r.calls ≡ 0
 
 -- so it is with a change of how many versions are kept, unless it is done
-record StaysKept (l : Layout) (r : Ruling KeepAnswer) : Type 0 where
-  stays : (keep_told r.answer ≡ store.Done → ⊥) → r.layout ≡ l
+pub record StaysKept (l : Layout) (r : Ruling KeepAnswer) : Type 0 where
+  pub stays : (keep_told r.answer ≡ store.Done → ⊥) → r.layout ≡ l
+  pub calls : (keep_told r.answer ≡ store.Done → ⊥) → r.calls ≡ 0
 
 module _ (l : Layout) (h : History) where
   left : (a : StepAnswer) → Stays l (leaving a h l)
-  left a = record { stays = λ none. refl }
+  left a = record { stays = λ none. refl; calls = λ none. refl }
 
   stepped : (n : ℕ) (m : Layout) (calls : ℕ)
       → Stays l (record { answer = Stepped n; history = h; layout = m; calls = calls; gone = [] })
-  stepped n m calls = record { stays = λ none. absurd (none n refl) }
+  stepped n m calls = record { stays = λ none. absurd (none n refl); calls = λ none. absurd (none n refl) }
 
   either : (b : Bool) (x y : Ruling StepAnswer) → Stays l x → Stays l y → Stays l (cond b x y)
   either true x y p q = p
@@ -76,7 +78,7 @@ module _ (l : Layout) (h : History) where
   by_frames (f ∷ fs) = either (has_no_number l.next_log 1) _ _ (left (Exhausted counter.Log))
       (either (has_no_epoch l) _ _ (left (Exhausted counter.Version)) (stepped l.active.number (rotated l) 3))
 
-  rotate_stays : (halted : Option FileName) → Stays l (rotate_unless halted l h)
+  pub rotate_stays : (halted : Option FileName) → Stays l (rotate_unless halted l h)
   rotate_stays (Some file) = left (Halted file)
   rotate_stays None = by_frames l.active.frames
 
@@ -85,25 +87,25 @@ module _ (l : Layout) (h : History) where
   by_oldest (Some log) = either (has_no_number l.next_table 1) _ _ (left (Exhausted counter.Table))
       (either (has_no_epoch l) _ _ (left (Exhausted counter.Version)) (stepped l.next_table (flushed l log) 5))
 
-  flush_stays : (halted : Option FileName) → Stays l (flush_unless halted l h)
+  pub flush_stays : (halted : Option FileName) → Stays l (flush_unless halted l h)
   flush_stays (Some file) = left (Halted file)
   flush_stays None = by_oldest (oldest l.frozen)
 
 module _ (l : Layout) (h : History) (v : ℕ) where
   kept_left : (a : KeepAnswer) → StaysKept l (leaving a h l)
-  kept_left a = record { stays = λ none. refl }
+  kept_left a = record { stays = λ none. refl; calls = λ none. refl }
 
   one : (b : Bool) (x y : Ruling KeepAnswer) → StaysKept l x → StaysKept l y → StaysKept l (cond b x y)
   one true x y p q = p
   one false x y p q = q
 
-  keep_stays : (halted : Option FileName) → StaysKept l (keep_unless halted l h v)
+  pub keep_stays : (halted : Option FileName) → StaysKept l (keep_unless halted l h v)
   keep_stays (Some file) = kept_left (keep.Halted file)
   keep_stays None = one ((v == 0) || nat_lt 16 v) _ _ (kept_left keep.InvalidRequest)
-      (one (v == l.keep) _ _ (kept_left keep.Kept) (record { stays = λ none. absurd (none refl) }))
+      (one (v == l.keep) _ _ (kept_left keep.Kept) (record { stays = λ none. absurd (none refl); calls = λ none. absurd (none refl) }))
 
 -- and with a sweep, unless it is told how many files it removed
-sweep_stays : (l : Layout) (h : History) → ((n : ℕ) → sweep_told (sweep_ruling l h).answer ≡ store.Removed n → ⊥)
+pub sweep_stays : (l : Layout) (h : History) → ((n : ℕ) → sweep_told (sweep_ruling l h).answer ≡ store.Removed n → ⊥)
     → (sweep_ruling l h).layout ≡ l
 sweep_stays l h = of l.halted
   where
@@ -246,7 +248,7 @@ module _ (s : things.State) where
   picked_stays name r (pick.Rejected segment) none = refl
   picked_stays name r pick.NoRewrite none = refl
 
-  pick_stays : (name : Name) (percent : ℕ) (o : Option Thing) → let x = pick_as s name percent o in
+  pub pick_stays : (name : Name) (percent : ℕ) (o : Option Thing) → let x = pick_as s name percent o in
       ((n : ℕ) → x.answer ≡ store.Number n → ⊥) → x.state.layout ≡ s.layout
   pick_stays name percent None none =
       let r = pick_ruling s.layout (history_in s.commits) percent in picked_stays name r r.answer none
@@ -259,7 +261,7 @@ module _ (s : things.State) where
   moved_stays name pass r (relocate.Exhausted c) none = refl
   moved_stays name pass r (relocate.Full long frame) none = refl
 
-  move_stays : (name : Name) (o : Option Thing) → let x = move_by s name o in
+  pub move_stays : (name : Name) (o : Option Thing) → let x = move_by s name o in
       ((n : ℕ) → x.answer ≡ store.Moved n → ⊥) → x.state.layout ≡ s.layout
   move_stays name None none = refl
   move_stays name (Some (ATransaction t b)) none = refl

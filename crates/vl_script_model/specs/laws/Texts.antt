@@ -1,9 +1,9 @@
 -- What taking a text for a line does to the disk, and how a run ends there.
-use Rattle.std.proofs.Common.{◌≡◌, inl, inr, ℕ, List, [], None, Some, Result, Ok, Err, OnOk, refl, sym, ◌∙◌, ap, subst}
-use Rattle.std.specs.Prelude.{IsOk, IsErr, IsErrAnd}
+use Rattle.std.proofs.Common.{◌≡◌, inl, inr, ℕ, List, [], None, Some, Result, Ok, Err, OnOk, refl, sym, ◌∙◌, ap, subst, arith}
+use Rattle.std.specs.Prelude.{◌+◌, IsOk, IsErr, IsErrAnd}
 use Rattle.std.specs.Option.{option_map}
 use Rattle.vl_disk.specs.declared.watched.Watched.{Ghosts}
-use Rattle.vl_disk.specs.Faults.{Rose}
+use Rattle.vl_disk.specs.Faults.{Rose, after_calls}
 use Rattle.vl_io.specs.declared.sink.Sink as sink
 use Rattle.vl_engine_model.specs.Store.Lines as store
 use Rattle.vl_script_model.specs.laws.Laws.{IsSound}
@@ -11,12 +11,12 @@ use Rattle.vl_script.specs.declared.answer.Answer.{Answer}
 use Rattle.vl_script.specs.declared.answer.Answer.TheVariants.{Done, Moved, Number, Removed}
 use Rattle.vl_script.specs.declared.line.Line.{Line}
 use Rattle.vl_script.specs.Script.{line_of}
-use Rattle.vl_script_model.specs.Sequential.{State, answer_to, state_after, history_of, IsPrinted}
+use Rattle.vl_script_model.specs.Sequential.{State, answer_to, state_after, step_to, history_of, IsPrinted}
 use Rattle.vl_script_model.specs.Exchanges.{exchange_at, exchanged, state_behind}
 use Rattle.vl_disk.specs.declared.name.Name.{Name}
-use Rattle.vl_script_model.specs.Halts.{HaltsByDamage, HaltsByDisk, HaltsByRead, HaltsByReader}
+use Rattle.vl_script_model.specs.Halts.{HaltsBeside, HaltsByDamage, HaltsByDisk, HaltsByRead, HaltsByReader}
 use Rattle.vl_script_model.specs.Endings.{CutsAnswer, IsBetweenLines, TheDisk, TheReader, culprit_of, ending_at}
-use Rattle.vl_script_model.specs.Durable.{HoldsState, HoldsCommits, LeadsTo, DiskEnds, without_live}
+use Rattle.vl_script_model.specs.Durable.{HoldsState, HoldsCommits, LeadsTo, DiskEnds, without_live, without_merges}
 use Rattle.vl_script_model.specs.Stored.{IsStopped, IsStored}
 use Rattle.vl_engine_laws.specs.Shown.{Shown}
 use Rattle.vl_script_model.specs.Steps.{Finishes}
@@ -26,11 +26,14 @@ use Rattle.vl_script_model.specs.declared.ending.Ending.{Ending}
 use Rattle.vl_script_model.specs.declared.ending.Ending.TheVariants.{NoMemory, ReaderFault, AnswerCut}
 use Rattle.vl_script_model.specs.declared.ending.OnFault.{OnFault}
 use Rattle.vl_script_model.specs.laws.Ends.{at_fault, or_cut}
-use Rattle.vl_script_model.specs.laws.DiskSteps.{IsWatched, text_extends, rests_until, it_holds, its_commits, opens_again}
+use Rattle.vl_script_model.specs.laws.DiskSteps.{IsWatched, counted_commits, text_extends, rests_until, it_holds, opens_again, own_commits}
 use Rattle.vl_script_model.specs.laws.DiskSteps.{ends_within, ends_unchanged}
 use Rattle.vl_script_model.specs.laws.ShownDisk.{shown_stays, stored_exactly}
 use Rattle.vl_script_model.specs.laws.Extending.{line_keeps, printed_done, printed_moved, printed_number, printed_removed}
 use Rattle.vl_script_model.specs.laws.Staying.{layout_stays}
+use Rattle.vl_script_model.specs.laws.Counting.{Counts, line_counts}
+use Rattle.vl_script_model.specs.laws.Halting.{out_beside, read_beside}
+use Rattle.vl_script_model.specs.laws.HeldDisk.{stored_beside}
 
 -- ---- results
 
@@ -139,9 +142,7 @@ module _ {D : Type 0} (g : Ghosts D) (watched : IsWatched g) (s : State) (text :
       → HoldsState g IsStored s disk → LeadsTo g IsStored Shown IsStopped disk disk s behind result
   carries_nothing disk result err sound held = record {
     answered = on_ok_at_err result _ err;
-    no_commit = λ _. (s, refl, refl, held.there);
-    unread = λ _. (s, refl, refl, held.there);
-    unchanged = λ _ same. held;
+    short = λ _. own_commits g IsStored s behind disk held;
     tells = opens_again g watched IsStored Shown IsStopped shown_stays stored_exactly s disk held;
     through = rests_until g watched IsStored Shown IsStopped shown_stays stored_exactly s (history_of behind)
         (text_extends s text) disk held;
@@ -153,9 +154,7 @@ module _ {D : Type 0} (g : Ghosts D) (watched : IsWatched g) (s : State) (text :
       → LeadsTo g IsStored Shown IsStopped disk disk s behind (Ok x)
   carries_bad disk x bad held = record {
     answered = subst (λ (t : State). HoldsState g IsStored t disk) (sym (bad_behind s text bad)) held;
-    no_commit = λ out. absurd (ok_not_out x out);
-    unread = λ _. (s, refl, refl, held.there);
-    unchanged = λ _ same. held;
+    short = λ by. absurd by;
     tells = opens_again g watched IsStored Shown IsStopped shown_stays stored_exactly s disk held;
     through = rests_until g watched IsStored Shown IsStopped shown_stays stored_exactly s (history_of behind)
         (text_extends s text) disk held;
@@ -167,37 +166,62 @@ module _ {D : Type 0} (g : Ghosts D) (watched : IsWatched g) (s : State) (text :
     pub carries_line : {T U : Type 0} (line : Line) (carried : Result U Halt) (result : Result T Halt)
         → line_of text ≡ Some line → LeadsTo g IsStored Shown IsStopped old new s (state_after s line) carried
         → (IsOk result → IsOk carried) → (HaltsByDisk result → HaltsByDisk carried)
-        → (HaltsByRead result → HaltsByRead carried) → (result ≡ Err why.NoMemory → HoldsCommits g IsStored s new)
+        → (HaltsBeside result → HoldsCommits g IsStored s (state_after s line) new)
         → LeadsTo g IsStored Shown IsStopped old new s behind result
-    carries_line line carried result spelled carries ok by_disk by_reading out =
+    carries_line line carried result spelled carries ok by_disk short =
         subst (λ (t : State). LeadsTo g IsStored Shown IsStopped old new s t result) (sym (line_behind s text line spelled)) (record {
           answered = on_ok_if result carried _ ok carries.answered;
-          no_commit = out;
-          unread = λ by. carries.unread (by_reading by);
-          unchanged = λ by. carries.unchanged (by_reading by);
+          short = short;
           tells = carries.tells;
           through = carries.through;
           stopped = λ by. carries.stopped (by_disk by);
         })
 
-    -- the answer to a line that makes no call found no memory
+    -- the answer to a line that makes no call, or whose merge was given up, found no memory
     pub kept_without_number : (line : Line) (answer : Answer) → IsSound s → IsPrinted answer (answer_to s line)
         → ((n : ℕ) → answer ≡ Number n → ⊥) → (answer ≡ Done → ⊥) → ((n : ℕ) → answer ≡ Moved n → ⊥)
         → ((n : ℕ) → answer ≡ Removed n → ⊥)
-        → HoldsState g IsStored (state_after s line) new
-        → HoldsCommits g IsStored s new
-    kept_without_number line answer sound is none undone unmoved unremoved held = (
-      state_after s line,
-      line_keeps s line unnumbered,
-      layout_stays s line sound unnumbered
-          (λ done. undone (printed_done answer (answer_to s line) is done))
-          (λ n moved. unmoved n (printed_moved answer (answer_to s line) n is moved))
-          (λ n removed. unremoved n (printed_removed answer (answer_to s line) n is removed)),
-      held.there,
-    )
+        → HoldsState g IsStored s old → HoldsState g IsStored (state_after s line) new
+        → HoldsCommits g IsStored s (state_after s line) new
+    kept_without_number line answer sound is none undone unmoved unremoved before held = record {
+      now = state_after s line;
+      held = held;
+      history = line_keeps s line unnumbered;
+      layout = stays;
+      given = (step_to s line).calls;
+      few = (let files = counts.files in omega (arith, files));
+      numbers = counts.numbers;
+      files = counts.files;
+      calls = refl;
+      unchanged = λ same.
+          let files = counts.files in
+          let alone : (step_to s line).calls ≡ 0 = omega (arith, files, same) in
+          let numbers = counts.numbers in
+          it_holds g watched IsStored Shown IsStopped shown_stays stored_exactly s new (record {
+            calls = held.calls ∙ ap (λ (n : ℕ). after_calls n s.calls) alone;
+            there = (
+              held.there.0,
+              held.there.1,
+              stored_beside s (state_after s line) held.there.0 (line_keeps s line unnumbered) stays
+                  (omega (arith, numbers, alone)) same before.there.2.openable before.there.2.tidy held.there.2,
+            );
+          });
+    }
       where
         unnumbered : (n : ℕ) → answer_to s line ≡ store.Number n → ⊥
         unnumbered n numbered = none n (printed_number answer (answer_to s line) n is numbered)
+
+        stays : without_merges (state_after s line).store.layout ≡ without_merges s.store.layout
+        stays = layout_stays s line sound unnumbered
+            (λ done. undone (printed_done answer (answer_to s line) is done))
+            (λ n moved. unmoved n (printed_moved answer (answer_to s line) n is moved))
+            (λ n removed. unremoved n (printed_removed answer (answer_to s line) n is removed))
+
+        counts : Counts s line
+        counts = line_counts s line sound unnumbered
+            (λ done. undone (printed_done answer (answer_to s line) is done))
+            (λ n moved. unmoved n (printed_moved answer (answer_to s line) n is moved))
+            (λ n removed. unremoved n (printed_removed answer (answer_to s line) n is removed))
 
     -- ---- how a run ends there
 
@@ -209,8 +233,8 @@ module _ {D : Type 0} (g : Ghosts D) (watched : IsWatched g) (s : State) (text :
         let held = it_holds g watched IsStored Shown IsStopped shown_stays stored_exactly behind new (of_ok result _ ok carries.answered) in
         ends_within g watched IsStored Shown IsStopped shown_stays stored_exactly old new AnswerCut s behind
         carries.through carries.tells
-        (λ sound. inr (its_commits g watched IsStored Shown IsStopped shown_stays stored_exactly behind new held))
-        (λ out. cc) (λ whole. absurd whole) (λ cuts. held) (λ by. cc) (λ by same. cc) (λ fault. cc)
+        (λ sound. inr (counted_commits g IsStored behind behind new held))
+        (λ out. cc) (λ whole. absurd whole) (λ cuts. held) (λ by. cc) (λ fault. cc)
 
     -- it is a bad line, whatever could be put
     pub ends_bad : {T : Type 0} (result : Result T Halt) (ending : Ending) → IsOk result
@@ -236,15 +260,14 @@ module _ {D : Type 0} (g : Ghosts D) (watched : IsWatched g) (s : State) (text :
         → LeadsTo g IsStored Shown IsStopped old new s behind result
         → DiskEnds g IsStored Shown IsStopped ⊥ ⊥ old new (record { ending = ending; first = s; answered = []; most = behind })
     ends_out k sink_old sink_new line result ending out finishes carries =
-        let held = carries.no_commit out in
+        let held = carries.short (out_beside result out) in
         ends_within g watched IsStored Shown IsStopped shown_stays stored_exactly old new ending s behind
         carries.through carries.tells (λ sound. inl held) (λ _. held)
         (λ whole. absurd (or_cut k sink_old sink_new line NoMemory ending
         (λ (e : Ending). IsBetweenLines (culprit_of e) → ⊥) finishes (λ never. never) (λ never. never) whole))
         (λ cuts. absurd (or_cut k sink_old sink_new line NoMemory ending (λ (e : Ending). CutsAnswer e → ⊥) finishes
         (λ e. cc) (λ e. cc) cuts))
-        (λ by. held) (λ by same. absurd
-        (or_cut k sink_old sink_new line NoMemory ending (λ (e : Ending). culprit_of e ≡ TheReader → ⊥) finishes (λ e. cc) (λ e. cc) by))
+        (λ by. held)
         (λ fault. absurd (or_cut k sink_old sink_new line NoMemory ending (λ (e : Ending). culprit_of e ≡ TheDisk → ⊥)
         finishes (λ e. cc) (λ e. cc) fault))
 
@@ -267,9 +290,6 @@ module _ {D : Type 0} (g : Ghosts D) (watched : IsWatched g) (s : State) (text :
         (λ it. absurd (or_cut k sink_old sink_new line (ending_at f) ending
         (λ (e : Ending). culprit_of e ≡ TheReader → ⊥) finishes
         (at_fault (λ (e : Ending). culprit_of e ≡ TheReader → ⊥) (λ e. cc) (λ e. cc) f) (λ e. cc) it))
-        (λ it same. absurd (or_cut k sink_old sink_new line (ending_at f) ending
-        (λ (e : Ending). culprit_of e ≡ TheReader → ⊥) finishes
-        (at_fault (λ (e : Ending). culprit_of e ≡ TheReader → ⊥) (λ e. cc) (λ e. cc) f) (λ e. cc) it))
         (λ fault. carries.stopped by)
 
     -- a read failed, or a write beside the disk
@@ -278,13 +298,13 @@ module _ {D : Type 0} (g : Ghosts D) (watched : IsWatched g) (s : State) (text :
         → LeadsTo g IsStored Shown IsStopped old new s behind result
         → DiskEnds g IsStored Shown IsStopped ⊥ ⊥ old new (record { ending = ending; first = s; answered = []; most = behind })
     ends_unread k sink_old sink_new line result ending by finishes carries =
-        let held = carries.unread by in
+        let held = carries.short (read_beside result by) in
         ends_within g watched IsStored Shown IsStopped shown_stays stored_exactly old new ending s behind
         carries.through carries.tells (λ sound. inl held) (λ out. held)
         (λ whole. absurd (or_cut k sink_old sink_new line ReaderFault ending
         (λ (e : Ending). IsBetweenLines (culprit_of e) → ⊥) finishes (λ never. never) (λ never. never) whole))
         (λ cuts. absurd (or_cut k sink_old sink_new line ReaderFault ending (λ (e : Ending). CutsAnswer e → ⊥) finishes
         (λ e. cc) (λ e. cc) cuts))
-        (λ it. held) (λ it same. it_holds g watched IsStored Shown IsStopped shown_stays stored_exactly s new (carries.unchanged by same))
+        (λ it. held)
         (λ fault. absurd (or_cut k sink_old sink_new line ReaderFault ending
         (λ (e : Ending). culprit_of e ≡ TheDisk → ⊥) finishes (λ e. cc) (λ e. cc) fault))

@@ -6,14 +6,12 @@ use Rattle.vl_script_model.specs.Exchanges.{exchanged}
 use Rattle.vl_replay.specs.AsCalled.{AnswersAsCalled}
 use Rattle.vl_replay.specs.Served.{disk_of}
 use Rattle.vl_script_model.specs.Sequential.{answer_to}
-use Rattle.vl_script_model.specs.declared.fails.Halt.TheVariants as why
 use Rattle.vl_script_model.specs.laws.AskingLaws.{line_asks}
 use Rattle.vl_script_model.specs.laws.Ends.{exchange_at-answered}
-use Rattle.vl_script_model.specs.laws.Halting.{by_disk_still, by_read_still, out_not_by_disk, out_readable}
+use Rattle.vl_script_model.specs.laws.Halting.{beside_still, by_disk_still, by_read_still, out_not_by_disk, out_readable}
 use Rattle.vl_script_model.specs.laws.Extending.{is_printed_text}
 use Rattle.vl_script_model.specs.laws.Texts.{by_damage_still, by_reader_still, carries_nothing, carries_bad, carries_line}
-use Rattle.vl_script_model.specs.laws.Texts.{kept_without_number, of_ok, ok_not_err, ok_not_out, out_not_by_reader}
-use Rattle.vl_script_model.specs.laws.Texts.{out_undamaged, same_halt}
+use Rattle.vl_script_model.specs.laws.Texts.{kept_without_number, of_ok, ok_not_err, out_not_by_reader, out_undamaged}
 use Rattle.vl_replay.proofs.AsCalled.Lines.{halted_line, halted_out}
 use Rattle.vl_replay.proofs.answer.execute_line.Goals as goal
 
@@ -57,8 +55,7 @@ returns-in_err-answer-clause-carries g c s stands held =
     (sym c.in_ok-line.ensures ∙ c.in-Some.is) carried
     (λ ok. absurd (ok_not_err residual.result ok residual.ensures.0))
     (by_disk_still c.line.result residual.result _ c.in_err-answer.was residual.ensures.1)
-    (by_read_still c.line.result residual.result _ c.in_err-answer.was residual.ensures.1)
-    (λ out. carried.no_commit (c.in_err-answer.was ∙ ap Err (same_halt residual.result _ why.NoMemory out residual.ensures.1)))
+    (λ by. carried.short (beside_still c.line.result residual.result _ c.in_err-answer.was residual.ensures.1 by))
 
 pub returns-in_err-print_answer-clause-carries : goal.returns-in_err-print_answer-clause-carries
 returns-in_err-print_answer-clause-carries g c s stands held =
@@ -70,8 +67,7 @@ returns-in_err-print_answer-clause-carries g c s stands held =
     (sym c.in_ok-line.ensures ∙ c.in-Some.is) carried
     (λ is_it. absurd (ok_not_err residual.result is_it residual.ensures.0))
     (λ by. absurd (out_not_by_disk residual.result residual.ensures.1 by))
-    (λ by. absurd (out_readable residual.result residual.ensures.1 by))
-    (λ out. kept_without_number g.D.Watched
+    (λ by. kept_without_number g.D.Watched
     (record { only_now = g.met.D.Disk.only_now; counts_now = g.met.D.Disk.counts_now }) s c.args.text.now
     (disk_of c.args.replayer.now) (disk_of c.line.new.self) c.in-Some.line c.in_ok-answer.answer stands.serves.sound
     (c.in_ok-answer.ensures.answer s stands)
@@ -87,14 +83,14 @@ returns-in_err-print_answer-clause-carries g c s stands held =
     (λ count is_removed. ok_not_err c.print_answer.result
     (c.print_answer.ensures.room_for_removed count is_removed
     (omega (arith, ap length c.in_ok-out.ensures.items, c.in_ok-out.ensures.capacity))) (ap is_err c.in_err-print_answer.was))
-    (of_ok c.line.result _ ok carried.answered))
+    held (of_ok c.line.result _ ok carried.answered))
 
 pub returns-clause-carries : goal.returns-clause-carries
 returns-clause-carries g c s stands held =
     carries_line g.D.Watched (record { only_now = g.met.D.Disk.only_now; counts_now = g.met.D.Disk.counts_now }) s
     c.args.text.now (disk_of c.args.replayer.now) (disk_of c.line.new.self) c.in-Some.line c.line.result _
     (sym c.in_ok-line.ensures ∙ c.in-Some.is) (c.line.ensures.carries c.requires s stands held)
-    (λ ok. ap is_ok c.in_ok-answer.was) (λ by. absurd by) (λ by. absurd by) (λ out. absurd (ok_not_out _ out))
+    (λ ok. ap is_ok c.in_ok-answer.was) (λ by. absurd by) (λ by. absurd by)
 
 pub returns-in_default-clause-reads : goal.returns-in_default-clause-reads
 returns-in_default-clause-reads g c = sym c.in_ok-line.ensures ∙ c.in_default.is

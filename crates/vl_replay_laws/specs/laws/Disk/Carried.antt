@@ -24,7 +24,7 @@ use Rattle.vl_replay_laws.specs.declared.open.Open.{Open}
 use Rattle.vl_script_model.specs.laws.Growing.{Keeps}
 use Rattle.vl_script.specs.declared.answer.Answer.{Answer}
 use Rattle.vl_script_model.specs.laws.Betweens.{extends_same}
-use Rattle.vl_script_model.specs.laws.DiskSteps.{IsWatched, opens_again, rests_until}
+use Rattle.vl_script_model.specs.laws.DiskSteps.{IsWatched, opens_again, own_commits, rests_until}
 use Rattle.vl_script_model.specs.laws.ShownDisk.{shown_stays, stored_exactly}
 
 -- what lives is held by no disk
@@ -100,9 +100,7 @@ module _ {D H R : Type 0} (g : Ghosts D) (watched : IsWatched g) (bytes : H → 
               there = (state, told, stored_on s x keeps tidy state stored);
             })
             (its_tidy bytes seen core os s x result makes);
-        no_commit = λ out. (s, refl, refl, held.there);
-        unread = λ halts. (s, refl, refl, held.there);
-        unchanged = λ halts same. held;
+        short = λ halts. own_commits g IsStored s (state_by s x) disk held;
         tells = opens_again g watched IsStored Shown IsStopped shown_stays stored_exactly s disk held;
         through = rests_until g watched IsStored Shown IsStopped shown_stays stored_exactly s (history_of (state_by s x))
             (extends_same (history_of s) (history_of (state_by s x)) (ap history_in keeps.commits)) disk held;

@@ -3,6 +3,7 @@ use Rattle.std.proofs.Common.{◌≡◌, ◌≤◌, ℕ, ◌+◌, inl, List, len
 use Rattle.std.specs.Prelude.{Option, None, Some, Ok, Err, Result, OnOk, IsErrAnd, IsTrue, T}
 use Rattle.std.specs.FinMap.{entries, entries_sorted, is_sorted}
 use Rattle.std.specs.Option.{option_map}
+use Rattle.vl_disk.specs.Calls.{ChangesNothing}
 use Rattle.vl_disk.specs.DiskState.{DiskState, appended}
 use Rattle.vl_disk.specs.Faults.{after_calls}
 use Rattle.vl_disk.specs.declared.name.Name.{Name as FileName}
@@ -45,8 +46,8 @@ use Rattle.vl_model.specs.Keys.{key_cmp}
 use Rattle.vl_model.specs.declared.change.Change.{Change}
 use Rattle.vl_model.specs.declared.counter.Counter.{Counter}
 use Rattle.vl_recover.specs.laws.crash.TornFrames as torn
-use Rattle.vl_script_model.specs.Durable.{CarriesOut, CrashesShow, HoldsCommits, HoldsState, LeadsTo, StopsWithin, Tells}
-use Rattle.vl_script_model.specs.Halts.{HaltsByDisk, HaltsByRead}
+use Rattle.vl_script_model.specs.Durable.{CarriesOut, CrashesShow, HoldsState, LeadsTo, StopsWithin, Tells}
+use Rattle.vl_script_model.specs.Halts.{HaltsBeside, HaltsByDisk}
 use Rattle.vl_replay_laws.specs.Replaying.{StandsIn, state_by}
 use Rattle.vl_script_model.specs.Sequential.{State, history_of}
 use Rattle.vl_replay_laws.specs.Standing.{IsTransaction}
@@ -58,6 +59,7 @@ use Rattle.vl_replay_laws.specs.declared.open.Open.{Open}
 use Rattle.vl_script_model.specs.laws.Growing.{Keeps, history_more}
 use Rattle.vl_script.specs.declared.answer.Answer.{Answer}
 use Rattle.vl_seglog.specs.Frames.{frame_at, frames_grammar}
+use Rattle.vl_script_model.specs.laws.DiskSteps.{own_commits}
 use Rattle.vl_script_model.specs.laws.HeldDisk.{stored_as, stored_by}
 use Rattle.vl_replay_laws.specs.laws.Names.CommitMaking.{answers_ruling, ruling_of}
 use Rattle.vl_replay_laws.specs.laws.Names.Serving.{represents}
@@ -211,12 +213,6 @@ module _ {D H R : Type 0} (g : Ghosts D) (bytes : H → Option (List ℕ)) (befo
         (omega (arith, log, next_log)) (omega (arith, table, next_table))
         (λ now then. numbered_still s.files (g.told old) (g.told new) disk now files told then stored.numbered)
 
-    -- where the engine represents what it did, the commits are held
-    commits_kept : engine.Represents bytes after (g.told new) (history_of s) s.store.layout → HoldsCommits g IsStored s new
-    commits_kept represents =
-        let x = only Done s.store in
-        (state_by s x, refl, refl, stored_then x (history_of s) s.store.layout refl refl stands.running refl refl represents)
-
   -- ---- what it came to
 
   module _ (outcome : Outcome CommitAnswer) (effects : Effects)
@@ -238,18 +234,15 @@ module _ {D H R : Type 0} (g : Ghosts D) (bytes : H → Option (List ℕ)) (befo
     -- by what is so where it was answered, where memory ran out, and where the disk failed
     leads : (result : Result Answer Halt) → HoldsState g IsStored s old
         → OnOk result (HoldsState g IsStored (state_by s (committing s name t b)) new)
-        → (result ≡ Err why.NoMemory → HoldsCommits g IsStored s new)
-        → (HaltsByRead result → HoldsState g IsStored s new)
+        → (HaltsBeside result → HoldsState g IsStored s new)
         → (HaltsByDisk result → IsTrue g.fails_cleanly
         → StopsWithin g IsStopped s (state_by s (committing s name t b)) old new)
         → LeadsTo g IsStored Shown IsStopped old new s (state_by s (committing s name t b)) result
-    leads result held answered short unread stopped =
+    leads result held answered short stopped =
         let carried = carried held in
         record {
           answered = answered;
-          no_commit = short;
-          unread = λ halts. (s, refl, refl, (unread halts).there);
-          unchanged = λ halts same. unread halts;
+          short = λ by. own_commits g IsStored s (state_by s (committing s name t b)) new (short by);
           tells = carried.again stands.running;
           through = subst (λ (k : History). CrashesShow g Shown old new (history_of s) k) (sym its_history)
               (carried.through stands.running);
@@ -272,39 +265,15 @@ module _ {D H R : Type 0} (g : Ghosts D) (bytes : H → Option (List ℕ)) (befo
     pub answered_carries : (a : CommitAnswer) → outcome ≡ Answered a → (answer : Answer)
         → CarriesOut g IsStored Shown IsStopped old new s (state_by s (committing s name t b)) (Ok answer)
     answered_carries a answered answer held =
-        leads (Ok answer) held (holds_answered a answered held) (λ out. absurd cc) (λ halts. absurd halts) (λ halts. absurd halts)
+        leads (Ok answer) held (holds_answered a answered held) (λ by. absurd by) (λ halts. absurd halts)
 
-    -- The engine handed the transaction back, and there was no memory to put it back under its name.
-    pub exhausted_carries : (c : Counter) → outcome ≡ Answered (commit.Exhausted c)
+    -- Memory ran out before anything was changed, or there was none to put the transaction back under its name, which the engine
+    -- handed back.
+    pub short_carries : ChangesNothing g old new ⊥
         → CarriesOut {T = Answer} g IsStored Shown IsStopped old new s (state_by s (committing s name t b)) (Err why.NoMemory)
-    exhausted_carries c answered held =
-        leads (Err why.NoMemory) held tt (λ out. commits_kept files held (left_by (carried held)))
-        (λ halts. absurd halts) (λ halts. absurd halts)
-      where
-        left_by : Carried → engine.Represents bytes after (g.told new) (history_of s) s.store.layout
-        left_by carried =
-            let (same, represents) = carried.decides.answered (commit.Exhausted c) answered in
-            subst (λ (x : Ruling CommitAnswer). engine.Represents bytes after (g.told new) x.history x.layout)
-            (answers_ruling s.store.layout (history_of s) t (commit.Exhausted c) same) represents
-
-    pub full_carries : (long frame : ℕ) → outcome ≡ Answered (commit.Full long frame)
-        → CarriesOut {T = Answer} g IsStored Shown IsStopped old new s (state_by s (committing s name t b)) (Err why.NoMemory)
-    full_carries long frame answered held =
-        leads (Err why.NoMemory) held tt (λ out. commits_kept files held (left_by (carried held)))
-        (λ halts. absurd halts) (λ halts. absurd halts)
-      where
-        left_by : Carried → engine.Represents bytes after (g.told new) (history_of s) s.store.layout
-        left_by carried =
-            let (same, represents) = carried.decides.answered (commit.Full long frame) answered in
-            subst (λ (x : Ruling CommitAnswer). engine.Represents bytes after (g.told new) x.history x.layout)
-            (answers_ruling s.store.layout (history_of s) t (commit.Full long frame) same) represents
-
-    -- Memory ran out before anything was changed.
-    pub short_carries : outcome ≡ OutOfMemory
-        → CarriesOut {T = Answer} g IsStored Shown IsStopped old new s (state_by s (committing s name t b)) (Err why.NoMemory)
-    short_carries out_is held =
-        leads (Err why.NoMemory) held tt (λ out. commits_kept files held ((carried held).decides.no_memory out_is).0)
-        (λ halts. absurd halts) (λ halts. absurd halts)
+    short_carries none held = leads (Err why.NoMemory) held tt
+        (λ by. record { calls = none.calls ∙ held.calls; there = (held.there.0, none.told ∙ held.there.1, held.there.2) })
+        (λ halts. absurd halts)
 
     -- It was refused since the engine is halted, which never comes.
     pub halted_carries : (file : FileName) → ⊥
@@ -434,4 +403,4 @@ module _ {D H R : Type 0} (g : Ghosts D) (bytes : H → Option (List ℕ)) (befo
           (commit_frame (history_of s) (entries txn.writes))) old new)
           → CarriesOut {T = Answer} g IsStored Shown IsStopped old new s (state_by s (committing s name t b)) (Err (why.Disk file))
       failed_carries file stops held =
-          leads (Err (why.Disk file)) held tt (λ out. absurd cc) (λ halts. absurd halts) (λ halts clean. stops_so held (stops clean))
+          leads (Err (why.Disk file)) held tt (λ by. absurd by) (λ halts clean. stops_so held (stops clean))

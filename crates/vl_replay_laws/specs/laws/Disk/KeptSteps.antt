@@ -3,6 +3,7 @@ use Rattle.std.proofs.Common.{◌≡◌, ◌≤◌, ◌+◌, ℕ, List, refl, ap
 use Rattle.std.specs.Prelude.{Option, Some, Ok, Err, Result, OnOk}
 use Rattle.std.specs.Bool.{⊤}
 use Rattle.vl_disk.specs.Crash.{Image}
+use Rattle.vl_disk.specs.Calls.{ChangesNothing}
 use Rattle.vl_disk.specs.DiskState.{DiskState}
 use Rattle.vl_disk.specs.Faults.{after_calls}
 use Rattle.vl_disk.specs.Performs.{FailedAt, calls_on}
@@ -28,7 +29,7 @@ use Rattle.vl_model.specs.History.{History, last_number}
 use Rattle.vl_recover.specs.crash.Alike.{IsLeft}
 use Rattle.vl_script_model.specs.Between.{ShowsBetween}
 use Rattle.vl_script_model.specs.Durable.{CarriesOut, CrashesShow, HoldsCommits, HoldsState, LeadsTo, StopsWithin}
-use Rattle.vl_script_model.specs.Halts.{HaltsByRead}
+use Rattle.vl_script_model.specs.Halts.{HaltsBeside, HaltsByRead}
 use Rattle.vl_replay_laws.specs.Replaying.{StandsIn, state_by}
 use Rattle.vl_script_model.specs.Sequential.{State, history_of}
 use Rattle.vl_replay_laws.specs.Standing.{keep_answer}
@@ -39,7 +40,7 @@ use Rattle.vl_script_model.specs.declared.fails.Halt.TheVariants as why
 use Rattle.vl_replay_laws.specs.declared.open.Open.{Open}
 use Rattle.vl_script.specs.declared.answer.Answer.{Answer}
 use Rattle.vl_replay_laws.specs.laws.Disk.Committed.{numbered_still}
-use Rattle.vl_script_model.specs.laws.DiskSteps.{IsWatched}
+use Rattle.vl_script_model.specs.laws.DiskSteps.{IsWatched, own_commits}
 use Rattle.vl_script_model.specs.laws.HeldDisk.{stored_by}
 use Rattle.vl_replay_laws.specs.laws.Disk.Stepped.{at_each, at_most}
 use Rattle.vl_replay_laws.specs.laws.Names.KeepMaking.{KeepsOf, keep_failed}
@@ -104,6 +105,8 @@ module _ {D H R : Type 0} (g : Ghosts D) (watched : IsWatched g) (bytes : H → 
     pub carries : engine.Represents bytes before (g.told old) h l
         → Carries g bytes old new after h l r (as_before l l) (keep_outcome result) effects
     pub files : SameFiles (g.told old) (g.told new)
+    -- where memory ran out it changed nothing
+    pub untouched : result ≡ Err unkept.NoMemory → ChangesNothing g old new ⊥
     pub within : (KeepFailed result → ⊥) → after.back.state.next_log ≤ after.back.next_log
     pub sound : HaltsByRead (keep_answer result) → ⊥
     pub stops : KeepFailed result → StopsKeep
@@ -130,16 +133,6 @@ module _ {D H R : Type 0} (g : Ghosts D) (watched : IsWatched g) (bytes : H → 
           (let near = log_near in let same = keeps.next_log in omega (arith, near, same))
           (let near = table_near in let same = keeps.next_table in omega (arith, near, same)) numbered;
     }
-
-    -- where the engine represents what it did, it is held
-    holds_still : engine.Represents bytes after (g.told new) h l → (KeepFailed result → ⊥) → HoldsCommits g IsStored s new
-    holds_still still fine = (
-      s,
-      refl,
-      refl,
-      stored_by bytes after (g.told new) s h l refl refl held.there.2.openable stands.running still (did.within fine)
-          log_near table_near numbered,
-    )
 
     -- what a crash leaves shows the history
     through : CrashesShow g Shown old new h h
@@ -199,13 +192,15 @@ module _ {D H R : Type 0} (g : Ghosts D) (watched : IsWatched g) (bytes : H → 
     answered_of (Err (unkept.Disk at)) did = tt
     answered_of (Err (unkept.Halted at)) did = tt
 
-    short_of : (result : Result ⊤ KeepFail) → DidKeep result → keep_answer result ≡ Err why.NoMemory → HoldsCommits g IsStored s new
-    short_of (Ok done) did out = absurd cc
-    short_of (Err unkept.InvalidRequest) did out = absurd cc
-    short_of (Err unkept.NoMemory) did out =
-        holds_still held (Err unkept.NoMemory) did ((carried held (Err unkept.NoMemory) did).decides.no_memory refl).0 (λ failed. failed)
-    short_of (Err (unkept.Disk at)) did out = absurd cc
-    short_of (Err (unkept.Halted at)) did out = absurd cc
+    short_of : (result : Result ⊤ KeepFail) → DidKeep result → HaltsBeside (keep_answer result) → HoldsCommits g IsStored s behind new
+    short_of (Ok done) did by = absurd by
+    short_of (Err unkept.InvalidRequest) did by = absurd by
+    short_of (Err unkept.NoMemory) did by = own_commits g IsStored s behind new (record {
+      calls = (did.untouched refl).calls ∙ held.calls;
+      there = (held.there.0, (did.untouched refl).told ∙ held.there.1, held.there.2);
+    })
+    short_of (Err (unkept.Disk at)) did by = absurd by
+    short_of (Err (unkept.Halted at)) did by = absurd (did.sound by)
 
   -- A change of how many versions are kept is carried out so.
   pub keep_carries : (kept : Result ⊤ KeepFail) → DidKeep kept → (result : Result Answer Halt) → result ≡ keep_answer kept
@@ -213,9 +208,7 @@ module _ {D H R : Type 0} (g : Ghosts D) (watched : IsWatched g) (bytes : H → 
   keep_carries kept did result is held =
       subst (λ (x : Result Answer Halt). LeadsTo g IsStored Shown IsStopped old new s behind x) (sym is) (record {
         answered = answered_of held kept did;
-        no_commit = short_of held kept did;
-        unread = λ halts. absurd (did.sound halts);
-        unchanged = λ halts same. absurd (did.sound halts);
+        short = short_of held kept did;
         tells = (carried held kept did).again stands.running;
         through = through held kept did;
         stopped = λ halts clean. stops_within held kept did (did.stops (keep_failed kept halts));

@@ -43,7 +43,8 @@ use Rattle.vl_model.specs.declared.log_frame.Moved.{Moved}
 use Rattle.vl_recover.specs.laws.crash.TornFrames as torn
 use Rattle.vl_seglog.specs.Frames.{frame_at, frames_grammar}
 use Rattle.vl_script_model.specs.Durable.{CarriesOut, CrashesShow, HoldsState, LeadsTo, StopsWithin}
-use Rattle.vl_script_model.specs.Halts.{HaltsByDisk, HaltsByRead}
+use Rattle.vl_script_model.specs.laws.DiskSteps.{own_commits}
+use Rattle.vl_script_model.specs.Halts.{HaltsBeside, HaltsByDisk}
 use Rattle.vl_replay_laws.specs.Replaying.{StandsIn, state_by}
 use Rattle.vl_script_model.specs.Sequential.{State, history_of}
 use Rattle.vl_script_model.specs.Stopped.{ByFrame, append_failed, frame_behind, log_of, sync_failed}
@@ -116,18 +117,15 @@ module _ {D H R : Type 0} (g : Ghosts D) (bytes : H → Option (List ℕ)) (befo
     carried : HoldsState g IsStored s old → Carries g bytes old new after h l r (as_before l l) outcome effects
     carried held = carries (represents_before held)
 
-    -- by what is so where it was answered, where memory ran out, where a read failed, and where the disk did
+    -- by what is so where it was answered, where memory ran out or a read failed, and where the disk did
     leads : (result : Result Answer Halt) → HoldsState g IsStored s old
         → OnOk result (HoldsState g IsStored (state_by s moving) new)
-        → (result ≡ Err why.NoMemory → HoldsState g IsStored s new)
-        → (HaltsByRead result → HoldsState g IsStored s new)
+        → (HaltsBeside result → HoldsState g IsStored s new)
         → (HaltsByDisk result → IsTrue g.fails_cleanly → StopsWithin g IsStopped s (state_by s moving) old new)
         → LeadsTo g IsStored Shown IsStopped old new s (state_by s moving) result
-    leads result held answered short unread stopped = record {
+    leads result held answered short stopped = record {
       answered = answered;
-      no_commit = λ out. (s, refl, refl, (short out).there);
-      unread = λ halts. (s, refl, refl, (unread halts).there);
-      unchanged = λ halts same. unread halts;
+      short = λ by. own_commits g IsStored s (state_by s moving) new (short by);
       tells = (carried held).again stands.running;
       through = subst (λ (k : History). CrashesShow g Shown old new h k) (history_is l h p batch ∙ sym its_history)
           ((carried held).through stands.running);
@@ -148,7 +146,7 @@ module _ {D H R : Type 0} (g : Ghosts D) (bytes : H → Option (List ℕ)) (befo
               (subst (λ (n : ℕ). n ≤ s.files + 1) (sym keeps.next_table) held.there.2.next_drawn)
               (λ now then. numbered_still s.files (g.told old) (g.told new) held.there.0 now files held.there.1 then
               held.there.2.numbered);
-        }) (λ out. absurd cc) (λ halts. absurd halts) (λ halts. absurd halts)
+        }) (λ by. absurd by) (λ halts. absurd halts)
       where
         carries_now : Carries g bytes old new after h l r (as_before l l) outcome effects
         carries_now = carried held
@@ -156,12 +154,12 @@ module _ {D H R : Type 0} (g : Ghosts D) (bytes : H → Option (List ℕ)) (befo
     -- Memory ran out, or a look-up failed, before anything was changed.
     pub short_moves : ChangesNothing g old new ⊥
         → CarriesOut {T = Answer} g IsStored Shown IsStopped old new s (state_by s moving) (Err why.NoMemory)
-    short_moves none held = leads (Err why.NoMemory) held tt (λ out. unchanged none held) (λ halts. absurd halts) (λ halts. absurd halts)
+    short_moves none held = leads (Err why.NoMemory) held tt (λ by. unchanged none held) (λ halts. absurd halts)
 
     pub unread_moves : (file : FileName) → ChangesNothing g old new ⊥
         → CarriesOut {T = Answer} g IsStored Shown IsStopped old new s (state_by s moving) (Err (why.Read file))
     unread_moves file none held =
-        leads (Err (why.Read file)) held tt (λ out. absurd cc) (λ halts. unchanged none held) (λ halts. absurd halts)
+        leads (Err (why.Read file)) held tt (λ by. unchanged none held) (λ halts. absurd halts)
 
     -- ---- the disk failed
 
@@ -268,4 +266,4 @@ module _ {D H R : Type 0} (g : Ghosts D) (bytes : H → Option (List ℕ)) (befo
           (frame_at log_format l.active.number l.active.length (Relocated (moved_of (sources l) p.segment (last_number h) batch))) old new)
           → CarriesOut {T = Answer} g IsStored Shown IsStopped old new s (state_by s moving) (Err (why.Disk file))
       failed_moves file stops held =
-          leads (Err (why.Disk file)) held tt (λ out. absurd cc) (λ halts. absurd halts) (λ halts clean. stops_so held (stops clean))
+          leads (Err (why.Disk file)) held tt (λ by. absurd by) (λ halts clean. stops_so held (stops clean))

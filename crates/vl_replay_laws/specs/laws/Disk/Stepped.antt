@@ -34,7 +34,7 @@ use Rattle.vl_model.specs.History.{History, last_number}
 use Rattle.vl_recover.specs.crash.Alike.{IsLeft}
 use Rattle.vl_script_model.specs.Between.{ShowsBetween}
 use Rattle.vl_script_model.specs.Durable.{CarriesOut, CrashesShow, HoldsCommits, HoldsState, LeadsTo, StopsWithin}
-use Rattle.vl_script_model.specs.Halts.{HaltsByRead}
+use Rattle.vl_script_model.specs.Halts.{HaltsBeside, HaltsByRead}
 use Rattle.vl_replay_laws.specs.Replaying.{StandsIn, state_by_step}
 use Rattle.vl_script_model.specs.Sequential.{State, files_behind, history_of}
 use Rattle.vl_replay_laws.specs.Standing.{step_answer}
@@ -44,7 +44,7 @@ use Rattle.vl_script_model.specs.declared.fails.Halt.{Halt}
 use Rattle.vl_script_model.specs.declared.fails.Halt.TheVariants as why
 use Rattle.vl_replay_laws.specs.declared.open.Open.{Open}
 use Rattle.vl_script.specs.declared.answer.Answer.{Answer}
-use Rattle.vl_script_model.specs.laws.DiskSteps.{IsWatched}
+use Rattle.vl_script_model.specs.laws.DiskSteps.{IsWatched, own_commits}
 use Rattle.vl_script_model.specs.laws.HeldDisk.{stored_by}
 use Rattle.vl_replay_laws.specs.laws.Names.Serving.{represents}
 use Rattle.vl_replay_laws.specs.laws.Names.StepMaking as making
@@ -275,23 +275,23 @@ module _ {D H R : Type 0} (g : Ghosts D) (watched : IsWatched g) (bytes : H → 
     answered_of (Err (undone.Disk at)) did = tt
     answered_of (Err (undone.Halted at)) did = tt
 
-    short_of : (result : Result (Option ℕ) StepFail) → Did all name result → step_answer result ≡ Err why.NoMemory
-        → HoldsCommits g IsStored s new
-    short_of (Ok (Some number)) did out = absurd cc
-    short_of (Ok None) did out = absurd cc
-    short_of (Err (undone.Exhausted c)) did out = absurd cc
-    short_of (Err undone.NoMemory) did out =
-        (s, refl, refl, (held.there.0, (did.untouched tt).told ∙ held.there.1, held.there.2))
-    short_of (Err (undone.Disk at)) did out = absurd cc
-    short_of (Err (undone.Halted at)) did out = absurd cc
+    short_of : (result : Result (Option ℕ) StepFail) → Did all name result → HaltsBeside (step_answer result)
+        → HoldsCommits g IsStored s then new
+    short_of (Ok (Some number)) did by = absurd by
+    short_of (Ok None) did by = absurd by
+    short_of (Err (undone.Exhausted c)) did by = absurd by
+    short_of (Err undone.NoMemory) did by = own_commits g IsStored s then new (record {
+      calls = (did.untouched tt).calls ∙ held.calls;
+      there = (held.there.0, (did.untouched tt).told ∙ held.there.1, held.there.2);
+    })
+    short_of (Err (undone.Disk at)) did by = absurd by
+    short_of (Err (undone.Halted at)) did by = absurd (did.sound by)
 
     leads : (result : Result (Option ℕ) StepFail) → Did all name result
         → LeadsTo g IsStored Shown IsStopped old new s then (step_answer result)
     leads result did = record {
       answered = answered_of result did;
-      no_commit = short_of result did;
-      unread = λ halts. absurd (did.sound halts);
-      unchanged = λ halts same. absurd (did.sound halts);
+      short = short_of result did;
       tells = (carried result did).again stands.running;
       through = through result did;
       stopped = λ halts clean. stops_within result did (did.stops (making.step_failed result halts));

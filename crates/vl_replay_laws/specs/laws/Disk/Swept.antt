@@ -45,7 +45,7 @@ use Rattle.vl_pins.specs.declared.retired_file.RetiredFile.{RetiredFile}
 use Rattle.vl_recover.specs.crash.Alike.{IsLeft}
 use Rattle.vl_script_model.specs.Between.{ShowsBetween}
 use Rattle.vl_script_model.specs.Durable.{CarriesOut, CrashesShow, HoldsCommits, HoldsState, LeadsTo, StopsWithin}
-use Rattle.vl_script_model.specs.Halts.{HaltsByRead}
+use Rattle.vl_script_model.specs.Halts.{HaltsBeside, HaltsByRead}
 use Rattle.vl_replay_laws.specs.Replaying.{StandsIn, state_by}
 use Rattle.vl_replay_laws.specs.Standing.{sweep_answer}
 use Rattle.vl_script_model.specs.Sequential.{State, history_of}
@@ -304,10 +304,11 @@ module _ {D H R W : Type 0} (g : Ghosts D) (watched : IsWatched g) (w : Writers 
     answered_of (Err (unswept.Disk name)) did = tt
     answered_of (Err (unswept.Halted name)) did = tt
 
-    short_of : (result : Result ℕ SweepFail) → sweep_answer result ≡ Err why.NoMemory → HoldsCommits g IsStored s new
-    short_of (Ok count) out = absurd cc
-    short_of (Err (unswept.Disk name)) out = absurd cc
-    short_of (Err (unswept.Halted name)) out = absurd cc
+    short_of : (result : Result ℕ SweepFail) → DidSweep merging result → HaltsBeside (sweep_answer result)
+        → HoldsCommits g IsStored s behind new
+    short_of (Ok count) did by = absurd by
+    short_of (Err (unswept.Disk name)) did by = absurd by
+    short_of (Err (unswept.Halted name)) did by = absurd (did.sound by)
 
     failed_at : (result : Result ℕ SweepFail) → SweepFailed result → (name : FileName) × (result ≡ Err (unswept.Disk name))
     failed_at (Ok count) failed = absurd failed
@@ -320,9 +321,7 @@ module _ {D H R W : Type 0} (g : Ghosts D) (watched : IsWatched g) (w : Writers 
   sweep_carries merging done did result is held =
       subst (λ (x : Result Answer Halt). LeadsTo g IsStored Shown IsStopped old new s behind x) (sym is) (record {
         answered = answered_of held merging done did;
-        no_commit = short_of held merging done;
-        unread = λ halts. absurd (did.sound halts);
-        unchanged = λ halts same. absurd (did.sound halts);
+        short = short_of held merging done did;
         tells = (carried held merging done did).again stands.running;
         through = through held merging done did;
         stopped = λ halts clean. (let (name, at) = failed_at held merging done (sweep_failed done halts) in

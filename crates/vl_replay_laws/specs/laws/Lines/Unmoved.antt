@@ -15,7 +15,7 @@ use Rattle.vl_script_model.specs.Sequential.{State, files_after, history_of, sta
 use Rattle.vl_script_model.specs.Stored.{IsStopped, IsStored}
 use Rattle.vl_script_model.specs.declared.fails.Halt.{Halt}
 use Rattle.vl_script_model.specs.laws.Betweens.{extends_itself}
-use Rattle.vl_script_model.specs.laws.DiskSteps.{IsWatched, opens_again, rests_until}
+use Rattle.vl_script_model.specs.laws.DiskSteps.{IsWatched, opens_again, own_commits, rests_until}
 use Rattle.vl_script_model.specs.laws.Extending.{line_extends}
 use Rattle.vl_script_model.specs.laws.ShownDisk.{shown_stays, stored_exactly}
 use Rattle.vl_replay_laws.specs.Passing.{TellsUsed, name_made}
@@ -39,9 +39,7 @@ module _ {D : Type 0} (g : Ghosts D) (watched : IsWatched g) (s : State) (disk :
       → CarriesOut g IsStored Shown IsStopped disk disk s (state_after s line) result
   unanswered_carries line result err sound held = record {
     answered = on_ok_at_err result _ err;
-    no_commit = λ _. (s, refl, refl, held.there);
-    unread = λ _. (s, refl, refl, held.there);
-    unchanged = λ _ same. held;
+    short = λ _. own_commits g IsStored s (state_after s line) disk held;
     tells = opens_again g watched IsStored Shown IsStopped shown_stays stored_exactly s disk held;
     through = rests_until g watched IsStored Shown IsStopped shown_stays stored_exactly s (history_of (state_after s line))
         (line_extends s line) disk held;
@@ -53,9 +51,7 @@ module _ {D : Type 0} (g : Ghosts D) (watched : IsWatched g) (s : State) (disk :
   leaves_carries {T} t x same held = subst (λ (u : State). LeadsTo {T = T} g IsStored Shown IsStopped disk disk s u (Ok x))
       (sym same) (record {
         answered = held;
-        no_commit = λ out. cc;
-        unread = λ halts. absurd halts;
-        unchanged = λ halts _. absurd halts;
+        short = λ halts. absurd halts;
         tells = opens_again g watched IsStored Shown IsStopped shown_stays stored_exactly s disk held;
         through = rests_until g watched IsStored Shown IsStopped shown_stays stored_exactly s (history_of s)
             (extends_itself (history_of s)) disk held;

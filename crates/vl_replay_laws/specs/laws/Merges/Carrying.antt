@@ -24,7 +24,7 @@ use Rattle.vl_replay_laws.specs.Choosing.{line_for}
 use Rattle.vl_replay_laws.specs.declared.choice.Choice.{Choice}
 use Rattle.vl_replay_laws.specs.Drawn.{DrawsOn, drawn_state}
 use Rattle.vl_script_model.specs.Durable.{CrashesShow, HoldsCommits, HoldsState, LeadsTo, StopsWithin}
-use Rattle.vl_script_model.specs.Halts.{HaltsByDisk, HaltsByRead}
+use Rattle.vl_script_model.specs.Halts.{HaltsBeside, HaltsByDisk}
 use Rattle.vl_replay_laws.specs.Replaying.{state_by_plan}
 use Rattle.vl_script_model.specs.Sequential.{State, history_of, state_after, step_to}
 use Rattle.vl_script_model.specs.Stopped.{AreNumberedUpTo, GivesUpTo, step_failed}
@@ -39,7 +39,7 @@ use Rattle.vl_script.specs.declared.answer.Answer.TheVariants as answers
 use Rattle.vl_script_model.specs.laws.DiskSteps.{IsWatched}
 use Rattle.vl_script_model.specs.laws.HeldDisk.{stored_by}
 use Rattle.vl_replay_laws.specs.laws.Merges.Choosing.{behind_for, commits_for, counted_step, files_for, step_for}
-use Rattle.vl_replay_laws.specs.laws.Merges.Filling.{fill_more}
+use Rattle.vl_replay_laws.specs.laws.Merges.Filling.{drawn_next, fill_more}
 use Rattle.vl_replay_laws.specs.laws.Merges.Planned.{Plans, drawn_beside, planned_beside}
 use Rattle.vl_replay_laws.specs.laws.Merges.Planning.{fills, planned_state, whole, whole_is}
 
@@ -157,12 +157,6 @@ module _ {D H R : Type 0} (g : Ghosts D) (watched : IsWatched g) (bytes : H → 
       some_same a b e = cc
 
   module _ (count : ℕ) (result : Result (Option Counter) Halt) (drew : DrawsOn g old new (planned_state j s) count result) where
-    -- whatever came between, it holds the commits
-    commits_held : (HaltsByDisk result → ⊥) → HoldsCommits g IsStored s new
-    commits_held fine =
-        let held = drew.held fine in
-        (drawn_state count (planned_state j s), refl, drawn_beside count (with_job j l) ∙ planned_beside j l, held.there)
-
     -- so many calls it makes at least
     calls_least : (few : count ≤ length (outputs j)) → (count ≡ 0) ⊎ (l.next_table + count ≤ max_file_number + 1) → count ≤ line.calls
     calls_least few fits =
@@ -176,7 +170,7 @@ module _ {D H R : Type 0} (g : Ghosts D) (watched : IsWatched g) (bytes : H → 
         of (suc n) few (inr le) = let more = fill_more s.store name j (outputs j) (with_job j l) [] 0 n running
             (omega (arith, few)) (omega (arith, le)) in omega (arith, more)
 
-    -- a read failed, or a write beside the disk: where the line makes no file nothing was changed
+    -- where the line makes no file nothing was changed
     unchanged_held : (HaltsByDisk result → ⊥) → (few : count ≤ length (outputs j)) → (count ≡ 0)
         ⊎ (l.next_table + count ≤ max_file_number + 1)
         → behind.files ≡ s.files → HoldsState g IsStored s new
@@ -193,6 +187,25 @@ module _ {D H R : Type 0} (g : Ghosts D) (watched : IsWatched g) (bytes : H → 
             unplanned_stored s j held.there.0 tidy
                 (drawn_none (planned_state j s) held.there.0 held.there.2),
           );
+        }
+
+    -- whatever came between, it holds the commits, beside so many files
+    commits_held : (HaltsByDisk result → ⊥) → (few : count ≤ length (outputs j)) → (count ≡ 0)
+        ⊎ (l.next_table + count ≤ max_file_number + 1) → HoldsCommits g IsStored s behind new
+    commits_held fine few fits =
+        let least = calls_least few fits in
+        let made = files_for choice s name in
+        record {
+          now = drawn_state count (planned_state j s);
+          held = drew.held fine;
+          history = refl;
+          layout = drawn_beside count (with_job j l) ∙ planned_beside j l;
+          given = count;
+          few = omega (arith, least, made);
+          numbers = drawn_next count (with_job j l);
+          files = refl;
+          calls = refl;
+          unchanged = λ same. (s, refl, refl, refl, refl, unchanged_held fine few fits same);
         }
 
     -- what a crash meanwhile leaves shows the commits
@@ -240,9 +253,7 @@ module _ {D H R : Type 0} (g : Ghosts D) (watched : IsWatched g) (bytes : H → 
         → LeadsTo {T = Answer} g IsStored Shown IsStopped old new s behind (Ok (answers.Number number))
     whole_leads is all fits number = record {
       answered = answered;
-      no_commit = λ out. absurd cc;
-      unread = λ halts. absurd halts;
-      unchanged = λ halts same. absurd halts;
+      short = λ halts. absurd halts;
       tells = drew.tells;
       through = goes;
       stopped = λ halts. absurd halts;
@@ -276,11 +287,8 @@ module _ {D H R : Type 0} (g : Ghosts D) (watched : IsWatched g) (bytes : H → 
         → LeadsTo {T = Answer} g IsStored Shown IsStopped old new s behind (Err halt)
     halted_leads halt is few fits where_failed = record {
       answered = tt;
-      no_commit = λ out. commits_held
-          (λ failed. not_memory halt (same_halt out) (subst (λ (r : Result (Option Counter) Halt). HaltsByDisk r) is failed));
-      unread = λ by. commits_held (λ failed. not_both halt by (subst (λ (r : Result (Option Counter) Halt). HaltsByDisk r) is failed));
-      unchanged = λ by same. unchanged_held
-          (λ failed. not_both halt by (subst (λ (r : Result (Option Counter) Halt). HaltsByDisk r) is failed)) few fits same;
+      short = λ by. commits_held
+          (λ failed. not_both halt by (subst (λ (r : Result (Option Counter) Halt). HaltsByDisk r) is failed)) few fits;
       tells = drew.tells;
       through = goes;
       stopped = λ by clean. (
@@ -289,18 +297,8 @@ module _ {D H R : Type 0} (g : Ghosts D) (watched : IsWatched g) (bytes : H → 
           );
     }
       where
-        same_halt : ◌≡◌ {A = Result Answer Halt} (Err halt) (Err halts.NoMemory) → halt ≡ halts.NoMemory
-        same_halt e = cc
-
-        not_memory : (h' : Halt) → h' ≡ halts.NoMemory → HaltsByDisk {T = Option Counter} (Err h') → ⊥
-        not_memory halts.NoMemory e by = by
-        not_memory (halts.Disk file) e by = absurd cc
-        not_memory (halts.Read file) e by = by
-        not_memory (halts.Halted file) e by = by
-        not_memory (halts.Damaged file place) e by = by
-
-        not_both : (h' : Halt) → HaltsByRead {T = Answer} (Err h') → HaltsByDisk {T = Option Counter} (Err h') → ⊥
-        not_both halts.NoMemory by failed = by
+        not_both : (h' : Halt) → HaltsBeside {T = Answer} (Err h') → HaltsByDisk {T = Option Counter} (Err h') → ⊥
+        not_both halts.NoMemory by failed = failed
         not_both (halts.Disk file) by failed = by
         not_both (halts.Read file) by failed = failed
         not_both (halts.Halted file) by failed = failed

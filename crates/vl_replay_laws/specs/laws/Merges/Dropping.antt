@@ -153,9 +153,7 @@ module _ {D W H R S : Type 0} (g : Ghosts D) (watched : IsWatched g) (w : Writer
       } in
       subst (λ (x : Step). LeadsTo g IsStored Shown IsStopped disk disk s (state_by s x) (Ok answers.Done)) (sym is) (record {
         answered = after_held;
-        no_commit = λ out. absurd cc;
-        unread = λ halts. absurd halts;
-        unchanged = λ halts same. absurd halts;
+        short = λ halts. absurd halts;
         tells = opens_again g watched IsStored Shown IsStopped shown_stays stored_exactly s disk held;
         through = rests_until g watched IsStored Shown IsStopped shown_stays stored_exactly s
             (history_of (state_by s y)) (extends_same (history_of s) (history_of (state_by s y)) refl) disk held;

@@ -46,7 +46,7 @@ use Rattle.vl_replay_laws.specs.declared.open.Open.{Open}
 use Rattle.vl_replay_laws.specs.declared.passing.Passing.{Passing}
 use Rattle.vl_script.specs.declared.answer.Answer.{Answer}
 use Rattle.vl_script_model.specs.laws.Betweens.{extends_same}
-use Rattle.vl_script_model.specs.laws.DiskSteps.{IsWatched, opens_again, rests_until}
+use Rattle.vl_script_model.specs.laws.DiskSteps.{IsWatched, opens_again, own_commits, rests_until}
 use Rattle.vl_script_model.specs.laws.HeldDisk.{stored_by}
 use Rattle.vl_script_model.specs.laws.ShownDisk.{shown_stays, stored_exactly}
 use Rattle.vl_replay_laws.specs.laws.Merges.Keeping.{KeepsPasses, KeepsWork, passes_kept, work_of}
@@ -195,9 +195,7 @@ module _ {D H R : Type 0} (g : Ghosts D) (watched : IsWatched g) (bytes : H → 
           (subst (λ (n : ℕ). n ≤ s.files + 1) (sym next_table) held.there.2.next_drawn)
           (λ now told. subst (AreNumberedUpTo s.files) (some_same held.there.0 now (sym held.there.1 ∙ told)) held.there.2.numbered);
     };
-    no_commit = λ out. absurd cc;
-    unread = λ halts. absurd halts;
-    unchanged = λ halts same. absurd halts;
+    short = λ halts. absurd halts;
     tells = opens_again g watched IsStored Shown IsStopped shown_stays stored_exactly s disk held;
     through = rests_until g watched IsStored Shown IsStopped shown_stays stored_exactly s
         (history_of (state_by s x)) (extends_same (history_of s) (history_of (state_by s x)) (ap history_in commits)) disk held;
@@ -213,9 +211,7 @@ module _ {D : Type 0} (g : Ghosts D) (watched : IsWatched g) (disk : D) (s : Sta
   pub out_carries : CarriesOut {T = Answer} g IsStored Shown IsStopped disk disk s (state_by s x) (Err why.NoMemory)
   out_carries held = record {
     answered = tt;
-    no_commit = λ out. (s, refl, refl, held.there);
-    unread = λ halts. absurd halts;
-    unchanged = λ halts same. absurd halts;
+    short = λ halts. own_commits g IsStored s (state_by s x) disk held;
     tells = opens_again g watched IsStored Shown IsStopped shown_stays stored_exactly s disk held;
     through = rests_until g watched IsStored Shown IsStopped shown_stays stored_exactly s
         (history_of (state_by s x)) (extends_same (history_of s) (history_of (state_by s x)) (ap history_in commits)) disk held;

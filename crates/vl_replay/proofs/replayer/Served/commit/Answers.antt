@@ -14,8 +14,8 @@ use Rattle.vl_replay_laws.specs.laws.Names.CommitMaking.{failed_so, handed_so, n
 use Rattle.vl_script_model.specs.declared.fails.Halt.TheVariants as halts
 use Rattle.vl_script.specs.declared.answer.Answer.TheVariants as answers
 use Rattle.vl_replay_laws.specs.laws.Disk.Carried.{quiet_carries}
-use Rattle.vl_replay_laws.specs.laws.Disk.Committed.{answered_carries, carries_short, exhausted_carries, failed_carries}
-use Rattle.vl_replay_laws.specs.laws.Disk.Committed.{full_carries, halted_carries, only_keeps, short_carries}
+use Rattle.vl_replay_laws.specs.laws.Disk.Committed.{answered_carries, carries_short, failed_carries, halted_carries}
+use Rattle.vl_replay_laws.specs.laws.Disk.Committed.{only_keeps, short_carries}
 use Rattle.vl_replay_laws.specs.laws.Names.Making.{its, itself, nothing_there}
 use Rattle.vl_replay_laws.specs.laws.Names.Serving.{Serves, decides_all, represents}
 use Rattle.vl_replay_laws.specs.laws.Names.Returning.{read_only_returns, returns_so, taken_as, taken_out, unknown_returns}
@@ -334,7 +334,7 @@ returns-in-Err-NoMemory-clause-carries g c s stands =
     short_carries g.D.Watched bytes core then c.args.self.now.engine.disk c.commit.new.self.disk os s stands
     c.commit.ensures.steps c.args.name txn t b there is _ _
     (λ represents. c.in-Err-NoMemory.ensures.carries (history_of s) s.store.layout t.reads represents is.live is.sees.notes)
-    c.commit.ensures.files (outcome_fail txn _ _ c.in-Err-NoMemory.field-0-is)
+    c.commit.ensures.files (c.in-Err-NoMemory.ensures.untouched tt)
 
 pub returns-in-Err-Disk-clause-carries : goal.returns-in-Err-Disk-clause-carries
 returns-in-Err-Disk-clause-carries g c s stands =
@@ -417,11 +417,10 @@ returns-in_err-put-in-Err-Exhausted-clause-carries g c s stands =
     c.in-Some-Transaction.field-0-is c.in-Some-Transaction.ensures in
     let (t, b, there, is, began) = itself bytes seen core os s stands left c.args.name txn taken in
     carries_short g.D.Watched _ _ s _ _ c.from_residual-in_err-put-in-Err-Exhausted.ensures.1
-    (exhausted_carries g.D.Watched bytes core then c.args.self.now.engine.disk c.commit.new.self.disk os s stands
+    (short_carries g.D.Watched bytes core then c.args.self.now.engine.disk c.commit.new.self.disk os s stands
     c.commit.ensures.steps c.args.name txn t b there is _ _
     (λ represents. c.in-Err-Exhausted.ensures.carries (history_of s) s.store.layout t.reads represents is.live is.sees.notes)
-    c.commit.ensures.files counters.Commit
-    (outcome_fail txn _ _ c.in-Err-Exhausted.field-0-is))
+    c.commit.ensures.files (c.in-Err-Exhausted.ensures.untouched tt))
 
 pub returns-in_err-put-in-Err-Full-clause-carries : goal.returns-in_err-put-in-Err-Full-clause-carries
 returns-in_err-put-in-Err-Full-clause-carries g c s stands =
@@ -437,11 +436,10 @@ returns-in_err-put-in-Err-Full-clause-carries g c s stands =
     c.in-Some-Transaction.field-0-is c.in-Some-Transaction.ensures in
     let (t, b, there, is, began) = itself bytes seen core os s stands left c.args.name txn taken in
     carries_short g.D.Watched _ _ s _ _ c.from_residual-in_err-put-in-Err-Full.ensures.1
-    (full_carries g.D.Watched bytes core then c.args.self.now.engine.disk c.commit.new.self.disk os s stands
+    (short_carries g.D.Watched bytes core then c.args.self.now.engine.disk c.commit.new.self.disk os s stands
     c.commit.ensures.steps c.args.name txn t b there is _ _
     (λ represents. c.in-Err-Full.ensures.carries (history_of s) s.store.layout t.reads represents is.live is.sees.notes)
-    c.commit.ensures.files c.in-Err-Full.field-0-1 c.in-Err-Full.field-0-2
-    (outcome_fail txn _ _ c.in-Err-Full.field-0-is))
+    c.commit.ensures.files (c.in-Err-Full.ensures.untouched tt))
 
 pub returns-in-None-clause-removes : goal.returns-in-None-clause-removes
 returns-in-None-clause-removes g c s stands removes =

@@ -1,7 +1,7 @@
 -- A change of how many versions are kept is answered as its ruling has it, and carried out so.
 use Rattle.std.proofs.Common.{◌≡◌, ap, sym, ◌∙◌, subst}
 use Rattle.std.specs.Prelude.{OnOk, Result}
-use Rattle.vl_steps.specs.Keeping.{keep_outcome}
+use Rattle.vl_steps.specs.Keeping.{KeepLeavesDisk, keep_outcome}
 use Rattle.vl_engine_laws.specs.laws.KeepLaws.{keep_made as keep_ruled, keep_other}
 use Rattle.vl_engine_model.specs.Ruling.{Ruling}
 use Rattle.vl_engine_model.specs.Rulings.Keep.{KeepAnswer, keep_ruling}
@@ -87,6 +87,7 @@ returns-clause-carries g c s stands =
       effects = _;
       carries = λ represented. c.keep.ensures.carries h l represented;
       files = c.keep.ensures.files;
+      untouched = λ out. c.keep.ensures.untouched (subst (KeepLeavesDisk c.args.self.now.engine.core.back.state.keep c.args.versions) (sym out) tt);
       within = λ fine. c.keep.ensures.within fine stands.within;
       sound = keep_sound bytes seen now core then os s stands (keep_ruling l h v) (keep_keeps l h v)
           (state_after-sound s (lines.Keep v) stands.sound) _ _ c.keep.result decides;
