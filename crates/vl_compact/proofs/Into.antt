@@ -1,10 +1,12 @@
 -- The first table that leads into a segment, in tables end to end.
-use Rattle.std.specs.Prelude.{Bool, true, false, Option, Some, None, if◌then◌else◌}
+use Rattle.std.specs.Prelude.{Bool, true, false, ◌||◌, Option, Some, None, if◌then◌else◌}
 use Rattle.std.specs.List.{AllZip, flat_map}
 use Rattle.std.proofs.Common.{◌≡◌, ℕ, List, [], ◌∷◌, ◌++◌, refl, ap, sym, subst, ◌∙◌}
+use Rattle.vl_compact.specs.Due.{has_leading, leads_into}
 use Rattle.vl_compact.specs.Laid.{AreBoth}
 use Rattle.vl_engine_model.specs.Levels.{first_into, has_point}
 use Rattle.vl_engine_model.specs.declared.table.Table.{Table}
+use Rattle.vl_table.specs.declared.table.Table.{Table as Known}
 
 pub into_here : (segment : ℕ) (t : Table) (here rest : List Table) → here ≡ t ∷ rest → has_point segment t ≡ true
     → first_into segment here ≡ Some t
@@ -34,6 +36,35 @@ into_none segment (x ∷ xs) ys is = by (has_point segment x) (into_none segment
         → (if b then Some x else first_into segment (xs ++ ys)) ≡ first_into segment ys
     by true rest is = absurd cc
     by false rest is = rest is
+
+-- whatever stands in them, one of the first leads there, or it is as with the others
+pub leading_here : {H : Type 0} (segment : ℕ) (t : Known H) (here rest : List (Known H)) → here ≡ t ∷ rest → leads_into segment t ≡ true
+    → has_leading segment here ≡ true
+leading_here segment t here rest is leads = ap (has_leading segment) is ∙ ap (λ (b : Bool). b || has_leading segment rest) leads
+
+pub leading_next : {H : Type 0} (segment : ℕ) (t : Known H) (here rest : List (Known H)) → here ≡ t ∷ rest → leads_into segment t ≡ false
+    → has_leading segment here ≡ has_leading segment rest
+leading_next segment t here rest is leads = ap (has_leading segment) is ∙ ap (λ (b : Bool). b || has_leading segment rest) leads
+
+pub leading_first : {H : Type 0} (segment : ℕ) (xs ys : List (Known H)) → has_leading segment xs ≡ true
+    → has_leading segment (xs ++ ys) ≡ true
+leading_first segment [] ys leads = absurd cc
+leading_first segment (x ∷ xs) ys leads = by (leads_into segment x) (leading_first segment xs ys) leads
+  where
+    by : (b : Bool) → (has_leading segment xs ≡ true → has_leading segment (xs ++ ys) ≡ true) → (b || has_leading segment xs) ≡ true
+        → (b || has_leading segment (xs ++ ys)) ≡ true
+    by true later is = refl
+    by false later is = later is
+
+pub leading_behind : {H : Type 0} (segment : ℕ) (xs ys : List (Known H)) → has_leading segment xs ≡ false
+    → has_leading segment (xs ++ ys) ≡ has_leading segment ys
+leading_behind segment [] ys none = refl
+leading_behind segment (x ∷ xs) ys none = by (leads_into segment x) (leading_behind segment xs ys) none
+  where
+    by : (b : Bool) → (has_leading segment xs ≡ false → has_leading segment (xs ++ ys) ≡ has_leading segment ys)
+        → (b || has_leading segment xs) ≡ false → (b || has_leading segment (xs ++ ys)) ≡ has_leading segment ys
+    by true later is = absurd cc
+    by false later is = later is
 
 module _ {A : Type 0} (R : A → Table → Type 0) where
   pub none_both : (o : Option Table) → AreBoth R None o → o ≡ None

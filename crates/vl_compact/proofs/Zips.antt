@@ -6,6 +6,19 @@ use Rattle.std.specs.List.{AllZip}
 suc_more : (i : ℕ) → suc i + 1 ≡ suc (i + 1)
 suc_more i = omega arith
 
+-- a list from the place of an item on, and from its end on
+pub from_item : {A : Type 0} (xs : List A) (i : ℕ) (x : A) → i < length xs → x ≡ get_or xs i x → drop i xs ≡ x ∷ drop (i + 1) xs
+from_item [] i x within is = absurd (omega arith)
+from_item (a ∷ xs) zero x within is = ap (λ (y : _). y ∷ xs) (sym is)
+from_item (a ∷ xs) (suc i) x within is =
+    from_item xs i x (omega arith) is ∙ ap (λ n. x ∷ drop n (a ∷ xs)) (sym (suc_more i))
+
+pub from_end : {A : Type 0} (xs : List A) (i : ℕ) → length xs ≤ i → drop i xs ≡ []
+from_end [] zero behind = refl
+from_end [] (suc i) behind = refl
+from_end (a ∷ xs) zero behind = absurd (omega arith)
+from_end (a ∷ xs) (suc i) behind = from_end xs i (omega arith)
+
 module _ {A B : Type 0} (R : A → B → Type 0) where
   -- what stands beside the item at a place
   pub record ZipAt (ys : List B) (i : ℕ) (x : A) : Type 0 where

@@ -1,3 +1,4 @@
+pub mod Due
 pub mod Filling
 pub mod Keeps
 pub mod Keys

@@ -2,11 +2,14 @@
 
 ghost use Rattle.std.specs.Prelude.{◌≡◌, ◌==◌, List, Option, Some};
 ghost use Rattle.std.specs.List.{AllZip, flat_map, list_any};
-ghost use Rattle.std.specs.Option.{option_copied};
+ghost use Rattle.std.specs.Option.{is_some, option_copied};
 ghost use Rattle.vl_model.specs.declared.point.Point as of_footer;
+ghost use Rattle.vl_compact.specs.Due.{has_leading, leads_into};
 ghost use Rattle.vl_compact.specs.Laid.{AreBoth, AreLevelsOf, AreTablesOf, IsTableOf};
 ghost use Rattle.vl_engine_model.specs.Levels as layout;
 ghost use Rattle.vl_engine_model.specs.declared.table.Table as laid;
+ghost use Rattle.vl_version.specs.levels.LevelTables.{all_tables};
+ghost use Rattle.vl_version.specs.levels.LevelsLooked.{tables_of};
 
 use vl_disk::HeldFile;
 use vl_model::Point;
@@ -64,8 +67,9 @@ fn lesser_of<'a, H: HeldFile>(table: &'a Table<H>, other: &'a Table<H>) -> &'a T
 
 // The first table in the order of the sources that leads into a segment.
 pub fn first_into<H: HeldFile>(levels: &Levels<H>, segment: u32) -> Option<&Table<H>>
-    ensures { (ls : List (List laid.Table)) → AreLevelsOf H.bytes levels.now ls
+    ensures laid { (ls : List (List laid.Table)) → AreLevelsOf H.bytes levels.now ls
         → AreBoth (IsTableOf H.bytes) (option_copied result) (layout.first_into segment (flat_map (λ level. level) ls)) }
+    ensures leads { is_some result ≡ has_leading segment (tables_of levels.now) }
 {
     match first_of(levels.newest(), segment) {
         Some(table) => Some(table),
@@ -75,8 +79,9 @@ pub fn first_into<H: HeldFile>(levels: &Levels<H>, segment: u32) -> Option<&Tabl
 
 // The first of the tables of levels below level 0.
 fn first_deeper<H: HeldFile>(levels: &[Level<H>], segment: u32) -> Option<&Table<H>>
-    ensures { (ls : List (List laid.Table)) → AllZip (AreTablesOf H.bytes) levels.now ls
+    ensures laid { (ls : List (List laid.Table)) → AllZip (AreTablesOf H.bytes) levels.now ls
         → AreBoth (IsTableOf H.bytes) (option_copied result) (layout.first_into segment (flat_map (λ level. level) ls)) }
+    ensures leads { is_some result ≡ has_leading segment (all_tables levels.now) }
 {
     for level in levels {
         match first_of(level.as_slice(), segment) {
@@ -89,8 +94,9 @@ fn first_deeper<H: HeldFile>(levels: &[Level<H>], segment: u32) -> Option<&Table
 
 // The first of these tables.
 fn first_of<H: HeldFile>(tables: &[Table<H>], segment: u32) -> Option<&Table<H>>
-    ensures { (ts : List laid.Table) → AreTablesOf H.bytes tables.now ts
+    ensures laid { (ts : List laid.Table) → AreTablesOf H.bytes tables.now ts
         → AreBoth (IsTableOf H.bytes) (option_copied result) (layout.first_into segment ts) }
+    ensures leads { is_some result ≡ has_leading segment tables.now }
 {
     for table in tables {
         if has_point(table, segment) {
@@ -102,13 +108,14 @@ fn first_of<H: HeldFile>(tables: &[Table<H>], segment: u32) -> Option<&Table<H>>
 
 // Whether a table leads into a segment, by its footer.
 fn has_point<H: HeldFile>(table: &Table<H>, segment: u32) -> bool
-    ensures { (t : laid.Table) → IsTableOf H.bytes table.now t → result ≡ layout.has_point segment t }
+    ensures laid { (t : laid.Table) → IsTableOf H.bytes table.now t → result ≡ layout.has_point segment t }
+    ensures leads { result ≡ leads_into segment table.now }
 {
-    leads_into(&table.shape().footer.points, segment)
+    is_led_by(&table.shape().footer.points, segment)
 }
 
 // Whether one of these points is into a segment.
-fn leads_into(points: &[Point], segment: u32) -> bool
+fn is_led_by(points: &[Point], segment: u32) -> bool
     ensures { result ≡ list_any (λ (p : of_footer.Point). p.segment == segment) points.now }
 {
     points.iter().any(|point| point.segment == segment)

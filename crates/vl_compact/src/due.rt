@@ -2,7 +2,9 @@
 
 ghost use Rattle.std.specs.Prelude.{◌≡◌, ◌≤◌, true, List, None, Some, nat_le, nat_lt, if◌then◌else◌, IfSome};
 ghost use Rattle.std.specs.List.{AllZip, sum_by};
-ghost use Rattle.vl_compact.specs.Laid.{AreLevelsOf, AreTablesOf};
+ghost use Rattle.std.specs.Option.{is_some};
+ghost use Rattle.vl_compact.specs.Due.{file_bytes, has_due, is_full};
+ghost use Rattle.vl_compact.specs.Laid.{AreLevelsOf, AreTablesOf, by_level};
 ghost use Rattle.vl_engine_model.specs.Levels as layout;
 ghost use Rattle.vl_engine_model.specs.declared.table.Table as laid;
 
@@ -16,6 +18,7 @@ const DUE_TABLES: usize = 4;
 // The least level that is due.
 pub fn least_due<H: HeldFile>(levels: &Levels<H>) -> Option<usize>
     ensures due { (ls : List (List laid.Table)) → AreLevelsOf H.bytes levels.now ls → result ≡ layout.due_from 0 ls }
+    ensures some { is_some result ≡ has_due H.size 0 (by_level levels.now) }
     ensures shallow { IfSome result (λ level. level ≤ 5) }
 {
     if DUE_TABLES <= levels.newest().len() {
@@ -28,6 +31,7 @@ pub fn least_due<H: HeldFile>(levels: &Levels<H>) -> Option<usize>
 fn least_deeper<H: HeldFile>(levels: &[Level<H>]) -> Option<usize>
     ensures due { (ls : List (List laid.Table)) → AllZip (AreTablesOf H.bytes) levels.now ls
         → result ≡ layout.due_from 1 ls }
+    ensures some { is_some result ≡ has_due H.size 1 levels.now }
     ensures shallow { IfSome result (λ level. level ≤ 5) }
 {
     for at in 0..levels.len() {
@@ -42,6 +46,7 @@ fn least_deeper<H: HeldFile>(levels: &[Level<H>]) -> Option<usize>
 fn is_due<H: HeldFile>(level: usize, tables: &[Table<H>]) -> bool
     requires { 1 ≤ level }
     ensures due { (ts : List laid.Table) → AreTablesOf H.bytes tables.now ts → result ≡ layout.is_due level ts }
+    ensures full { result ≡ is_full H.size level tables.now }
     ensures shallow { result ≡ true → level ≤ 5 }
 {
     match level_bytes(level) {
@@ -67,8 +72,9 @@ fn level_bytes(level: usize) -> Option<u64>
 
 // Whether the files of these tables have more bytes than so many. What is left of these is counted down, which can't wrap.
 fn is_over<H: HeldFile>(tables: &[Table<H>], bytes: u64) -> bool
-    ensures { (ts : List laid.Table) → AreTablesOf H.bytes tables.now ts
+    ensures laid { (ts : List laid.Table) → AreTablesOf H.bytes tables.now ts
         → result ≡ nat_lt bytes (sum_by (λ (t : laid.Table). t.length) ts) }
+    ensures over { result ≡ nat_lt bytes (file_bytes H.size tables.now) }
 {
     let mut left = bytes;
     for table in tables {

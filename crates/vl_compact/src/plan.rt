@@ -1,10 +1,13 @@
 //! Which merge is planned.
 
-ghost use Rattle.std.specs.Prelude.{◌≤◌, ◌∷◌, [], IfOk, List};
-ghost use Rattle.vl_compact.specs.Laid.{AreLevelsOf, AreTablesOf, IsTableOf};
+ghost use Rattle.std.specs.Prelude.{◌≡◌, ◌≤◌, ◌∷◌, [], IfOk, List};
+ghost use Rattle.std.specs.Option.{is_some};
+ghost use Rattle.vl_compact.specs.Due.{has_due, has_leading};
+ghost use Rattle.vl_compact.specs.Laid.{AreLevelsOf, AreTablesOf, IsTableOf, by_level};
 ghost use Rattle.vl_compact.specs.Merges.{IsMerge, drain_in, plan_in};
 ghost use Rattle.vl_engine_model.specs.Levels as layout;
 ghost use Rattle.vl_engine_model.specs.declared.table.Table as laid;
+ghost use Rattle.vl_version.specs.levels.LevelsLooked.{tables_of};
 
 use crate::choice::{first_into, least, level_at};
 use crate::due::least_due;
@@ -22,8 +25,10 @@ pub fn planned<H: HeldFile>(
     alloc: Global,
     levels: &Levels<H>,
 ) -> Result<Option<Inputs<H>>, AllocError>
-    ensures { IfOk result (λ inputs. (ls : List (List laid.Table)) → AreLevelsOf H.bytes levels.now ls
+    ensures merge { IfOk result (λ inputs. (ls : List (List laid.Table)) → AreLevelsOf H.bytes levels.now ls
         → IsMerge H.bytes inputs (plan_in ls)) }
+    // Whatever stands in the tables, it is so exactly where a level is due.
+    ensures due { IfOk result (λ inputs. is_some inputs ≡ has_due H.size 0 (by_level levels.now)) }
 {
     match least_due(levels) {
         None => Ok(None),
@@ -41,8 +46,10 @@ pub fn drained<H: HeldFile>(
     levels: &Levels<H>,
     segment: u32,
 ) -> Result<Option<Inputs<H>>, AllocError>
-    ensures { IfOk result (λ inputs. (ls : List (List laid.Table)) → AreLevelsOf H.bytes levels.now ls
+    ensures merge { IfOk result (λ inputs. (ls : List (List laid.Table)) → AreLevelsOf H.bytes levels.now ls
         → IsMerge H.bytes inputs (drain_in segment ls)) }
+    // Whatever stands in the tables, it is so exactly where one leads there.
+    ensures leads { IfOk result (λ inputs. is_some inputs ≡ has_leading segment (tables_of levels.now)) }
 {
     match first_into(levels, segment) {
         None => Ok(None),

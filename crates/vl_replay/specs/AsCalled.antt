@@ -1,9 +1,10 @@
 -- What a line that reads is answered, whatever its disk holds: what the engine's call gave. What is said of that is what the call
 -- itself says, so that no answer hides damage that was met, and none makes up damage or a fault.
-use Rattle.std.specs.Prelude.{◌≡◌, ◌⊎◌, ℕ, Bool, true, false, List, length, Option, None, Some, Result, Ok, Err, Vec}
+use Rattle.std.specs.Prelude.{◌≡◌, ◌⊎◌, ◌&&◌, not, ℕ, Bool, true, false, List, length, Option, None, Some, Result, Ok, Err, Vec}
 use Rattle.std.specs.Prelude.{IfErr, IfNone, IfOk, IfSome, OnOk}
 use Rattle.std.specs.FinMap.{get}
 use Rattle.std.specs.Global.{Global}
+use Rattle.std.specs.Option.{is_some}
 use Rattle.std.specs.Str.{bytes_eq}
 use Rattle.vl_collect.specs.Faults.{Counts, FailsPassing, MayWhere}
 use Rattle.vl_collect.specs.Passing.{AreRead, IsOver, Reaches, TornBehind}
@@ -23,6 +24,7 @@ use Rattle.vl_disk.specs.declared.reader.Reader as Readers
 use Rattle.vl_disk.specs.declared.watched.Watched.{Ghosts}
 use Rattle.vl_disk.specs.declared.writer.Writer.{Ghosts as Writers}
 use Rattle.vl_engine.specs.Opening.{AnswersOpening}
+use Rattle.vl_engine_laws.specs.declared.open.OpenMerge.{OpenMerge}
 use Rattle.vl_engine_model.specs.Relocation.{Candidate}
 use Rattle.vl_engine_model.specs.Store.Lines.{Name}
 use Rattle.vl_io.specs.declared.sink.Sink as sink
@@ -59,6 +61,7 @@ use Rattle.vl_script_model.specs.declared.fails.Halt.TheVariants.{Damaged, Disk,
 use Rattle.vl_script_model.specs.declared.fails.Halt.{Halt}
 use Rattle.vl_space.specs.Collecting.{FitsLooks}
 use Rattle.vl_steps.specs.Merging.{FitsReaders}
+use Rattle.vl_steps.specs.Planning.{is_due, is_led_into}
 use Rattle.vl_steps.specs.Relocating.{At, RelocatesAs, at}
 use Rattle.vl_steps.specs.declared.fails.MoveFail.{MoveFail}
 use Rattle.vl_table.specs.CursorParts.{MayFailOn, is_disk_fault}
@@ -213,6 +216,11 @@ module _ {D H R : Type 0} (g : Ghosts D) (bytes : H → Option (List ℕ)) where
 
 -- ---- merges
 
+-- there is a merge to plan of this version, whatever stands in its tables
+abbrev pub is_there : {H : Type 0} → (H → ℕ) → Choice → Version H → Bool
+is_there size Due version = is_due size version
+is_there size (LeadsInto segment) version = is_led_into segment version
+
 module _ {H R W : Type 0} (bytes : H → Option (List ℕ)) (faults : R → ℕ) (writers : Writers W) where
   -- What reading for a merge may fail by: one of its tables, which reading behind some key stops at; or, where look-ups in its base
   -- fit, one of the base's.
@@ -230,15 +238,12 @@ module _ {H R W : Type 0} (bytes : H → Option (List ℕ)) (faults : R → ℕ)
   HaltsMerging fits job (Err (Halted name)) = Unit {0}
   HaltsMerging fits job (Err (Damaged name place)) = MayFailMerging fits job (faults_of.Damaged name place)
 
-  -- A merge that was planned for what is due is of this version. Of a drain the engine doesn't say so.
-  abbrev pub IsMergeBy : Choice → Version H → {k : _} → Job (Base H R) H W k → Type 0
-  IsMergeBy Due version job = job.base.version ≡ version
-  IsMergeBy (LeadsInto segment) version job = Unit {0}
-
-  -- A plan or a drain reads well; or the merge that was planned was halted so.
-  abbrev pub AnswersPlan : Choice → Version H → Result Answer Halt → Type 0
-  AnswersPlan choice version result = ReadsWell result
-      ⊎ ((job : Job (Base H R) H W writers) × IsMergeBy choice version job × HaltsMerging (FitsReaders bytes job) job result)
+  -- A plan or a drain reads well, and does nothing only where a merge is open or there is none to plan; or the merge that was planned
+  -- of this version was halted so.
+  abbrev pub AnswersPlan : (there : Bool) → Option OpenMerge → Version H → Result Answer Halt → Type 0
+  AnswersPlan there merging version result =
+      (ReadsWell result × (result ≡ Ok answers.Idle → (not (is_some merging) && there) ≡ false))
+      ⊎ ((job : Job (Base H R) H W writers) × (job.base.version ≡ version) × HaltsMerging (FitsReaders bytes job) job result)
 
 -- ---- lines
 
@@ -259,10 +264,10 @@ AnswersLine g bytes faults writers old new passing (lines.Batch name) result = A
 AnswersLine g bytes faults writers old new passing (lines.Move name) result =
     AnswersMove g bytes passing faults (at old.engine.disk old.engine.core old.engine.merging)
     (at new.engine.disk new.engine.core new.engine.merging) name result
-AnswersLine g bytes faults writers old new passing (lines.Plan name) result =
-    AnswersPlan bytes faults writers Due old.engine.core.version result
-AnswersLine g bytes faults writers old new passing (lines.Drain name segment) result =
-    AnswersPlan bytes faults writers (LeadsInto segment) old.engine.core.version result
+AnswersLine {held = held} g bytes faults writers old new passing (lines.Plan name) result = AnswersPlan bytes faults writers
+    (is_there held.size Due old.engine.core.version) old.engine.merging old.engine.core.version result
+AnswersLine {held = held} g bytes faults writers old new passing (lines.Drain name segment) result = AnswersPlan bytes faults writers
+    (is_there held.size (LeadsInto segment) old.engine.core.version) old.engine.merging old.engine.core.version result
 AnswersLine g bytes faults writers old new passing line result = ReadsWell result
 
 -- so it is of a replayer that takes lines

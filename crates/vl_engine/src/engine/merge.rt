@@ -1,13 +1,14 @@
-ghost use Rattle.std.specs.Prelude.{◌≡◌, IfOk, None, Ok, OnOk, Some};
+ghost use Rattle.std.specs.Prelude.{◌≡◌, ◌&&◌, false, not, IfOk, None, Ok, OnOk, Some};
 ghost use Rattle.vl_space.specs.Collecting.{Collects};
 ghost use Rattle.vl_steps.specs.Installing.{IsHandedIn};
 ghost use Rattle.vl_steps.specs.Merging.{FitsReaders, HasMerge};
+ghost use Rattle.vl_steps.specs.Planning.{is_due};
 ghost use Rattle.vl_engine_laws.specs.Lent.{StandsOpen};
 ghost use Rattle.vl_space.specs.Removing.{Removes};
 ghost use Rattle.vl_engine_laws.specs.Represents.{Represents};
 ghost use Rattle.vl_engine_laws.specs.MayStep.{Fits};
 ghost use Rattle.vl_disk.specs.declared.name.Name.{Name};
-ghost use Rattle.std.specs.Option.{ForSome};
+ghost use Rattle.std.specs.Option.{ForSome, is_some};
 ghost use Rattle.vl_disk.specs.Performs.{GoesOnTelling};
 ghost use Rattle.vl_engine.specs.Merged.{MergesAs, PutsIn};
 ghost use Rattle.vl_engine.specs.Refusals.{CarriesOutAs, KeepsAllBelow, LeavesStore, LendsFrom, moment, of_install};
@@ -75,8 +76,9 @@ impl<D: Disk> Engine<D> {
         // No merge is left open.
         ensures ended { self.old.merging ≡ None → self.new.merging ≡ None }
 
-        // Where none was due nothing was done.
+        // Where none was due nothing was done; whatever stands in the tables, so it is only where a merge is open or no level is due.
         ensures idle { result ≡ Ok None → (self.new.core ≡ self.old.core) × (self.new.disk ≡ self.old.disk) }
+        ensures due { result ≡ Ok None → (not (is_some self.old.merging) && is_due D.Held.size self.old.core.version) ≡ false }
     {
         let Some(mut job) = self.plan()? else {
             return Ok(None);

@@ -1,10 +1,10 @@
 ghost use Rattle.std.specs.Prelude.{◌≡◌, None, Option, Some, IfOk, OnErr, OnOk};
-ghost use Rattle.std.specs.Option.{ForSome};
+ghost use Rattle.std.specs.Option.{ForSome, is_some};
 ghost use Rattle.vl_compact.specs.Laid.{AreBoth};
 ghost use Rattle.vl_compact.specs.Progress.{IsNew, made_of};
 ghost use Rattle.vl_steps.specs.Merging.{FitsReaders, HasMerge, IsJustOpen, IsMergeFor, IsMergeOf, OpensMerge, plan_outcome};
 ghost use Rattle.vl_engine_laws.specs.Lent.{StandsOpen};
-ghost use Rattle.vl_steps.specs.Planning.{IsChosen};
+ghost use Rattle.vl_steps.specs.Planning.{IsChosen, PlansWhere, is_due, is_led_into};
 ghost use Rattle.vl_engine_laws.specs.Represents.{Fronts, Represents, StandsFor};
 ghost use Rattle.vl_engine_laws.specs.MayStep.{Fits};
 ghost use Rattle.vl_engine_model.specs.Decides.{Decides, as_before, no_effects};
@@ -72,6 +72,8 @@ impl<D: Disk> Engine<D> {
         ensures base { IfOk result (λ job. ForSome job (λ job. job.base.version ≡ self.old.core.version)) }
         // One begins only where none is open.
         ensures open { IfOk result (λ job. ForSome job (λ _. self.old.merging ≡ None)) }
+        // Whatever stands in the tables, one is planned exactly where none is open and a level is due.
+        ensures due { PlansWhere (is_due D.Held.size self.old.core.version) self.old.merging result }
         // It may be carried out, and abandoned.
         ensures under_way { IfOk result (λ job. ForSome job (IsUnderWay D.Watched D.Writer.Writer self.new.disk
             self.new.core.front.halted self.new.merging)) }
@@ -130,8 +132,12 @@ impl<D: Disk> Engine<D> {
         ensures job { (h : History) (l : Layout) → StandsOpen D.Held.bytes self.old.core self.old.merging h l
             → IfOk result (λ job. AreBoth (HasMerge D.Writer.Writer D.Held.bytes) job (drain_ruling l h segment).answer) }
         ensures new { IfOk result (λ job. ForSome job IsNew) }
+        // It is a merge of what the engine has.
+        ensures base { IfOk result (λ job. ForSome job (λ job. job.base.version ≡ self.old.core.version)) }
         // One begins only where none is open.
         ensures open { IfOk result (λ job. ForSome job (λ _. self.old.merging ≡ None)) }
+        // Whatever stands in the tables, one is planned exactly where none is open and a table leads there.
+        ensures leads { PlansWhere (is_led_into segment self.old.core.version) self.old.merging result }
         // It may be carried out, and abandoned.
         ensures under_way { IfOk result (λ job. ForSome job (IsUnderWay D.Watched D.Writer.Writer self.new.disk
             self.new.core.front.halted self.new.merging)) }
@@ -181,6 +187,7 @@ impl<D: Disk> Engine<D> {
             → StandsFor D.Held.bytes self.old.core h l → IsChosen D.Held.bytes inputs h l ruling
             → IfOk result (λ job. AreBoth (HasMerge D.Writer.Writer D.Held.bytes) job ruling.answer) }
         ensures new { IfOk result (λ job. ForSome job IsNew) }
+        ensures begins { IfOk result (λ job. is_some job ≡ is_some inputs) }
         ensures base { IfOk result (λ job. ForSome job (λ job. job.base.version ≡ self.old.core.version)) }
         ensures under_way { IfOk result (λ job. ForSome job (IsUnderWay D.Watched D.Writer.Writer self.new.disk
             self.new.core.front.halted self.new.merging)) }

@@ -11,6 +11,7 @@ use Rattle.vl_replay_laws.specs.Standing.{keep_answer, step_answer, sweep_answer
 use Rattle.vl_replay_laws.specs.declared.passing.Passing.{Passing}
 use Rattle.vl_script.specs.Script.{line_of}
 use Rattle.vl_script.specs.declared.answer.Answer.{Answer}
+use Rattle.vl_script.specs.declared.answer.Answer.TheVariants.{Idle}
 use Rattle.vl_script.specs.declared.line.Line.{Line}
 use Rattle.vl_script.specs.declared.line.Line.TheVariants as lines
 use Rattle.vl_script_model.specs.Called.{Answering, HaltsAsLine}
@@ -28,8 +29,9 @@ use Rattle.vl_version.specs.declared.base.Base.{Base}
 module _ {D Held Reader Writer : Type 0} {watched : _} {held : _} {cloned : _} {read : _} {write : _} (g : Ghosts D)
     (bytes : Held → Option (List ℕ)) (faults : Reader → ℕ) (writers : Writers Writer)
     (old new : Served D Held Reader Writer watched held cloned read write)
-    (passing : Option (Passing (Base Held Reader) Held)) (result : Result Answer Halt) (sound : ReadsWell result) where
-  -- A line that makes a name is answered so where it reads well.
+    (passing : Option (Passing (Base Held Reader) Held)) (result : Result Answer Halt) (sound : ReadsWell result)
+    (busy : result ≡ Ok Idle → ⊥) where
+  -- A line that makes a name is answered so where it reads well, and isn't told that there is nothing to do.
   pub named_answers : (line : Line) → (name_made line ≡ None → ⊥) → AnswersLine g bytes faults writers old new passing line result
   named_answers (lines.Begin name) made = sound
   named_answers (lines.View name) made = sound
@@ -45,8 +47,8 @@ module _ {D Held Reader Writer : Type 0} {watched : _} {held : _} {cloned : _} {
   named_answers lines.Flush made = absurd (made refl)
   named_answers (lines.Keep versions) made = absurd (made refl)
   named_answers (lines.GetAt name key number) made = absurd (made refl)
-  named_answers (lines.Plan name) made = inl sound
-  named_answers (lines.Drain name segment) made = inl sound
+  named_answers (lines.Plan name) made = inl (sound, λ idle. absurd (busy idle))
+  named_answers (lines.Drain name segment) made = inl (sound, λ idle. absurd (busy idle))
   named_answers (lines.Install name) made = absurd (made refl)
   named_answers lines.Sweep made = absurd (made refl)
   named_answers lines.Stats made = absurd (made refl)

@@ -42,6 +42,12 @@ told_before None new state stays is = absurd (none_some state (sym (stays refl) 
 told_before (Some before) new state stays is = (before, refl)
 
 module _ {D V H W : Type 0} (g : Ghosts D) (w : Writers W) {s : _} where
+  -- where one waits a merge is open
+  pub waits_open : (disk : D) (merging : Option OpenMerge) (planned : Option (Planned V H W s)) → CanHandIn g w disk merging planned
+      → is_some planned ≡ true → is_some merging ≡ true
+  waits_open disk merging None can waits = absurd cc
+  waits_open disk merging (Some p) can waits = (can p refl).is_open
+
   -- it can be handed in
   pub handed_in : (disk : D) (halted : Option Name) (merging : Option OpenMerge) (job : Job V H W s) → MayHandIn g w disk merging job
       → IsHandedIn g w disk halted merging job

@@ -1,6 +1,6 @@
 -- What a plan and the end of a merge that is given up leave, in memory and on the disk.
 use Rattle.std.specs.Prelude.{◌≡◌, ℕ, ◌+◌, Bool, false, true, if◌then◌else◌}
-use Rattle.std.specs.Prelude.{is_some, List, [], ◌∷◌, ◌++◌, length, Option, None, Some, refl}
+use Rattle.std.specs.Prelude.{◌&&◌, not, Result, Ok, Err, IfOk, is_some, List, [], ◌∷◌, ◌++◌, length, Option, None, Some, refl}
 use Rattle.std.specs.Option.{ForSome, option_map}
 use Rattle.std.proofs.Common.{sym, ap, subst, arith, inl, inr, ◌∙◌}
 use Rattle.vl_compact.specs.Laid as compact
@@ -15,7 +15,7 @@ use Rattle.vl_disk.specs.declared.writer.Writer.{Ghosts as Writers}
 use Rattle.vl_engine_laws.specs.Lent.{AreLent as AreLentTo, Opens}
 use Rattle.vl_steps.specs.Merging.{FitsReaders, IsJustOpen, IsMergeFor, IsMergeOf}
 use Rattle.vl_engine_laws.specs.Lent.{StandsOpen}
-use Rattle.vl_steps.specs.Planning.{IsChosen, begins}
+use Rattle.vl_steps.specs.Planning.{IsChosen, PlansWhere, begins}
 use Rattle.vl_engine_laws.specs.Pointed.{layout_logs}
 use Rattle.vl_engine_laws.specs.Represents.{Represents, StandsFor}
 use Rattle.vl_engine_laws.specs.MayStep.{Fits}
@@ -51,6 +51,13 @@ none_open : (merging : Option OpenMerge) (o : Option OpenJob) → is_some mergin
 none_open None None none opens = refl
 none_open None (Some o) none opens = absurd opens
 none_open (Some m) o none opens = absurd cc
+
+-- Where none is open one is planned just where there is one.
+pub planned_where : {I J E : Type 0} (result : Result (Option J) E) (inputs : Option I) (there : Bool) (merging : Option OpenMerge)
+    → is_some merging ≡ false → is_some inputs ≡ there → IfOk result (λ job. is_some job ≡ is_some inputs)
+    → PlansWhere there merging result
+planned_where (Ok job) inputs there merging none some begins = begins ∙ some ∙ sym (ap (λ (b : Bool). not b && there) none)
+planned_where (Err why) inputs there merging none some begins = tt
 
 -- What is chosen of the levels is chosen of the layout's.
 merge_is : {H : Type 0} (bytes : H → Option (List ℕ)) (core : Core H) (h : History) (l : Layout) (levels : Levels H)

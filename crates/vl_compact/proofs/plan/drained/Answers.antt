@@ -11,13 +11,13 @@ use Rattle.vl_engine_model.specs.declared.job.Target.TheVariants.{InPlace}
 use Rattle.vl_engine_model.specs.declared.table.Table as laid
 use Rattle.vl_compact.proofs.plan.drained.Goals as goal
 
-pub returns-in-None : goal.returns-in-None
-returns-in-None g c = λ ls are.
+pub returns-in-None-clause-merge : goal.returns-in-None-clause-merge
+returns-in-None-clause-merge g c = λ ls are.
     subst (λ (o : Option laid.Table). IsMerge g.H.HeldFile.bytes None (option_map (λ t. record { tables = t ∷ []; target = InPlace }) o))
     (sym (none_both (IsTableOf g.H.HeldFile.bytes) (first_into c.args.segment (flat_map (λ level. level) ls))
-    (c.in-None.ensures ls are))) tt
+    (c.in-None.ensures.laid ls are))) tt
 
-pub returns-in_ok-alone-in-Some : goal.returns-in_ok-alone-in-Some
-returns-in_ok-alone-in-Some g c = λ ls are.
-    drain_some g.H.HeldFile.bytes _ (IsTableOf g.H.HeldFile.bytes) c.in-Some.table.now c.args.segment ls (c.in-Some.ensures ls are)
+pub returns-in_ok-alone-in-Some-clause-merge : goal.returns-in_ok-alone-in-Some-clause-merge
+returns-in_ok-alone-in-Some-clause-merge g c = λ ls are.
+    drain_some g.H.HeldFile.bytes _ (IsTableOf g.H.HeldFile.bytes) c.in-Some.table.now c.args.segment ls (c.in-Some.ensures.laid ls are)
     (λ t is. record { tables = c.in_ok-alone-in-Some.ensures t is; target = refl })

@@ -1,3 +1,4 @@
+use Rattle.std.specs.Option.{is_some}
 use Rattle.std.proofs.Common.{Global, Ok, Option, Some, Vec, ap, refl, subst, sym, ◌∙◌}
 use Rattle.vl_seglog.specs.declared.sealed.SealedLog.{SealedLog}
 use Rattle.vl_compact.specs.Progress.{made_of}
@@ -606,3 +607,6 @@ returns-in-Ok-clause-put_in g c h l is stands fits j planned =
     makes.open_job.job j s.same (makes.levels ∙ opened.tables.levels) (makes.flushed ∙ opened.tables.flushed) whole _ _
     (c.in-Ok.ensures.carries h s.layout makes.open_job s.represents s.stands makes.is_open whole lent).decides
     (makes.job_is ∙ one_job opened.open_job.job j (sym opened.planned ∙ planned))
+
+pub returns-in_default-clause-due : goal.returns-in_default-clause-due
+returns-in_default-clause-due g c is = sym c.in_ok-job.ensures.due ∙ ap is_some c.in_default.is

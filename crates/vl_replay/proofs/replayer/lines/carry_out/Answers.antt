@@ -1,6 +1,7 @@
 -- Each line's call makes the line's step.
 use Rattle.std.proofs.Common.{◌≡◌, ap, false, refl, sym, subst, true}
-use Rattle.std.specs.Prelude.{Option, None, Some, Result, Ok, Err, OnOk}
+use Rattle.std.specs.Prelude.{Option, None, Some, Result, Ok, Err, OnOk, is_ok}
+use Rattle.vl_script_model.specs.laws.Texts.{ok_not_err}
 use Rattle.vl_engine_laws.specs.Shown.{Shown}
 use Rattle.vl_engine_model.specs.Store.Reading.{a_transaction, a_view, answer_of, answer_with_tag}
 use Rattle.vl_engine_model.specs.Store.Things.{Step, thing_of}
@@ -1577,13 +1578,14 @@ some_not_none r v x was is same = cc
 pub returns-in_err-name-clause-as_called : goal.returns-in_err-name-clause-as_called
 returns-in_err-name-clause-as_called g c =
     named_answers g.D.Watched g.D.Held.HeldFile.bytes g.D.Reader.Reader.faults g.D.Writer.Writer c.args.served.now c.args.served.now c.args.passing.now
-    c.from_residual.result (err_reads_well c.from_residual.result c.from_residual.ensures.1) c.args.line
+    c.from_residual.result (err_reads_well c.from_residual.result c.from_residual.ensures.1)
+    (λ idle. ok_not_err c.from_residual.result (ap is_ok idle) c.from_residual.ensures.0) c.args.line
     (λ none. err_not_ok c.name_in_use.result _ None c.in_err-name.was (c.name_in_use.ensures.unnamed none))
 
 pub returns-in-Some-clause-as_called : goal.returns-in-Some-clause-as_called
 returns-in-Some-clause-as_called g c =
     named_answers g.D.Watched g.D.Held.HeldFile.bytes g.D.Reader.Reader.faults g.D.Writer.Writer c.args.served.now c.args.served.now c.args.passing.now
-    (Ok (answers.Taken c.in-Some.name)) tt c.args.line
+    (Ok (answers.Taken c.in-Some.name)) tt (λ idle. cc) c.args.line
     (λ none. some_not_none c.name_in_use.result _ c.in-Some.name c.in_ok-name.was c.in-Some.is (c.name_in_use.ensures.unnamed none))
 
 pub returns-in-Begin-clause-as_called : goal.returns-in-Begin-clause-as_called

@@ -1,6 +1,7 @@
 -- A merge is planned as the store has it, and carried out so.
 use Rattle.std.proofs.Common.{◌∙◌, ◌≡◌, ap, inl, inr, refl, subst, sym}
-use Rattle.std.specs.Prelude.{Err, None, Ok, OnOk, Option, Result}
+use Rattle.std.specs.Prelude.{◌&&◌, not, Bool, Err, None, Ok, OnOk, Option, Result, is_ok}
+use Rattle.std.specs.Option.{is_some}
 use Rattle.vl_engine_laws.specs.Shown.{Shown}
 use Rattle.vl_engine_laws.specs.declared.kept.Core.{Core}
 use Rattle.vl_engine_model.specs.Store.Lines as store_lines
@@ -15,6 +16,7 @@ use Rattle.vl_replay_laws.specs.Drawn.{drawn_all}
 use Rattle.vl_script_model.specs.Durable.{CarriesOut, LeadsTo}
 use Rattle.vl_replay_laws.specs.Choosing.{chosen, line_for}
 use Rattle.vl_replay_laws.specs.Replaying.{Merges}
+use Rattle.vl_replay.specs.AsCalled.{is_there}
 use Rattle.vl_replay.specs.Served.{StandsMerging}
 use Rattle.vl_script_model.specs.Sequential.{State, history_of, state_after, step_to}
 use Rattle.vl_script_model.specs.Stored.{IsStopped, IsStored}
@@ -23,6 +25,8 @@ use Rattle.vl_script.specs.declared.answer.Answer.{Answer}
 use Rattle.vl_script.specs.declared.answer.Answer.TheVariants as answers
 use Rattle.vl_replay.proofs.AsCalled.Merging.{met_halt}
 use Rattle.vl_replay.proofs.CarryingTables.{out_is}
+use Rattle.vl_replay.proofs.Merges.Handing.{waits_open}
+use Rattle.vl_script_model.specs.laws.Texts.{ok_not_err}
 use Rattle.vl_script_model.specs.laws.Halting.{err_reads_well}
 use Rattle.vl_script_model.specs.laws.DiskSteps.{IsWatched}
 use Rattle.vl_replay.proofs.CarryingRemoved.{LeavesDrawn}
@@ -522,19 +526,26 @@ returns-in-Ok-Some-clause-removes g c s stands bare removes =
 -- ---- what it is answered, whatever the disk holds
 
 pub returns-then-is_some-clause-as_called : goal.returns-then-is_some-clause-as_called
-returns-then-is_some-clause-as_called g c = inl tt
+returns-then-is_some-clause-as_called g c = inl (
+  tt,
+  λ idle. ap (λ (b : Bool). not b && is_there g.D.Held.HeldFile.size c.args.choice c.args.served.now.engine.core.version) (waits_open g.D.Watched g.D.Writer.Writer c.args.served.now.engine.disk
+      c.args.served.now.engine.merging c.args.planned.now c.requires (sym c.is_some.ensures ∙ c.if-is_some.true)),
+)
 
 pub returns-in_err-job-clause-as_called : goal.returns-in_err-job-clause-as_called
-returns-in_err-job-clause-as_called g c = inl (err_reads_well c.from_residual.result c.from_residual.ensures.1)
+returns-in_err-job-clause-as_called g c = inl (
+  err_reads_well c.from_residual.result c.from_residual.ensures.1,
+  λ idle. absurd (ok_not_err c.from_residual.result (ap is_ok idle) c.from_residual.ensures.0),
+)
 
 pub returns-in_default-clause-as_called : goal.returns-in_default-clause-as_called
-returns-in_default-clause-as_called g c = inl tt
+returns-in_default-clause-as_called g c = inl (tt, λ idle. sym c.in_ok-job.ensures.there ∙ ap is_some c.in_default.is)
 
 pub returns-in-Ok-None-clause-as_called : goal.returns-in-Ok-None-clause-as_called
-returns-in-Ok-None-clause-as_called g c = inl tt
+returns-in-Ok-None-clause-as_called g c = inl (tt, λ idle. cc)
 
 pub returns-in-Ok-Some-clause-as_called : goal.returns-in-Ok-Some-clause-as_called
-returns-in-Ok-Some-clause-as_called g c = inl tt
+returns-in-Ok-Some-clause-as_called g c = inl (tt, λ idle. cc)
 
 pub returns-in-Err-clause-as_called : goal.returns-in-Err-clause-as_called
 returns-in-Err-clause-as_called g c = inr (
