@@ -217,9 +217,9 @@ module _ {D H R : Type 0} (g : Ghosts D) (bytes : H → Option (List ℕ)) where
 -- ---- merges
 
 -- there is a merge to plan of this version, whatever stands in its tables
-abbrev pub is_there : {H : Type 0} → (H → ℕ) → Choice → Version H → Bool
-is_there size Due version = is_due size version
-is_there size (LeadsInto segment) version = is_led_into segment version
+abbrev pub can_merge : {H : Type 0} → (H → ℕ) → Choice → Version H → Bool
+can_merge size Due version = is_due size version
+can_merge size (LeadsInto segment) version = is_led_into segment version
 
 module _ {H R W : Type 0} (bytes : H → Option (List ℕ)) (faults : R → ℕ) (writers : Writers W) where
   -- What reading for a merge may fail by: one of its tables, which reading behind some key stops at; or, where look-ups in its base
@@ -238,12 +238,12 @@ module _ {H R W : Type 0} (bytes : H → Option (List ℕ)) (faults : R → ℕ)
   HaltsMerging fits job (Err (Halted name)) = Unit {0}
   HaltsMerging fits job (Err (Damaged name place)) = MayFailMerging fits job (faults_of.Damaged name place)
 
-  -- A plan or a drain reads well, and does nothing only where a merge is open or there is none to plan; or the merge that was planned
-  -- of this version was halted so.
+  -- A plan or a drain is idle only where a merge is open or there is none to plan. It reads well; or the merge that was planned of this
+  -- version was halted so.
   abbrev pub AnswersPlan : (there : Bool) → Option OpenMerge → Version H → Result Answer Halt → Type 0
-  AnswersPlan there merging version result =
-      (ReadsWell result × (result ≡ Ok answers.Idle → (not (is_some merging) && there) ≡ false))
-      ⊎ ((job : Job (Base H R) H W writers) × (job.base.version ≡ version) × HaltsMerging (FitsReaders bytes job) job result)
+  AnswersPlan there merging version result = (result ≡ Ok answers.Idle → (not (is_some merging) && there) ≡ false)
+      × (ReadsWell result
+      ⊎ ((job : Job (Base H R) H W writers) × (job.base.version ≡ version) × HaltsMerging (FitsReaders bytes job) job result))
 
 -- ---- lines
 
@@ -265,9 +265,9 @@ AnswersLine g bytes faults writers old new passing (lines.Move name) result =
     AnswersMove g bytes passing faults (at old.engine.disk old.engine.core old.engine.merging)
     (at new.engine.disk new.engine.core new.engine.merging) name result
 AnswersLine {held = held} g bytes faults writers old new passing (lines.Plan name) result = AnswersPlan bytes faults writers
-    (is_there held.size Due old.engine.core.version) old.engine.merging old.engine.core.version result
+    (can_merge held.size Due old.engine.core.version) old.engine.merging old.engine.core.version result
 AnswersLine {held = held} g bytes faults writers old new passing (lines.Drain name segment) result = AnswersPlan bytes faults writers
-    (is_there held.size (LeadsInto segment) old.engine.core.version) old.engine.merging old.engine.core.version result
+    (can_merge held.size (LeadsInto segment) old.engine.core.version) old.engine.merging old.engine.core.version result
 AnswersLine g bytes faults writers old new passing line result = ReadsWell result
 
 -- so it is of a replayer that takes lines

@@ -96,8 +96,8 @@ pub record HoldsCommits {D : Type 0} (g : Ghosts D) (holds : Holding) (t most : 
   pub numbers : now.store.layout.next_table ≡ t.store.layout.next_table + given
   pub files : now.files ≡ t.files + given
   pub calls : now.calls ≡ after_calls given t.calls
-  -- Where the line makes none, the disk holds the state as it was.
-  pub unchanged : most.files ≡ t.files → HoldsCounted g holds t disk
+  -- Where there are none, as of a line that makes no file, the disk holds the state as it was.
+  pub unchanged : given ≡ 0 → HoldsCounted g holds t disk
 
 -- Whatever a crash leaves at any moment from the old disk to the new one shows at least the one history and at most the
 -- other.

@@ -23,7 +23,7 @@ ghost use Rattle.vl_replay_laws.specs.Choosing.{chosen, line_for};
 ghost use Rattle.vl_script_model.specs.Durable.{CarriesOut};
 ghost use Rattle.vl_script_model.specs.Failing.{FailsAt, HasTables, ReaderFailed, beside};
 ghost use Rattle.vl_script_model.specs.Halts.{HaltsByDamage, HaltsByDisk, HaltsByRead, HaltsByReader, ReadsWell};
-ghost use Rattle.vl_replay.specs.AsCalled.{AnswersPlan, is_there};
+ghost use Rattle.vl_replay.specs.AsCalled.{AnswersPlan, can_merge};
 ghost use Rattle.vl_replay.specs.Handed.{CanHandIn};
 ghost use Rattle.vl_replay_laws.specs.Passing.{NamesNoPass};
 ghost use Rattle.vl_replay_laws.specs.Replaying.{MakesStep, MergesIn, TakesPlanned, state_by};
@@ -143,7 +143,7 @@ pub(super) fn plan<D: Disk>(
         → result ≡ Err (halts.Disk file) → FailsAt served.old.engine.core.back.manifest.number (line_for choice name) s file }
     // Whatever the disk holds, it is idle only where there is no merge to plan, and halted by what reading for its merge met.
     ensures as_called { AnswersPlan D.Held.bytes (λ r. D.Reader.faults r) D.Writer.Writer
-        (is_there D.Held.size choice served.old.engine.core.version) served.old.engine.merging served.old.engine.core.version result }
+        (can_merge D.Held.size choice served.old.engine.core.version) served.old.engine.merging served.old.engine.core.version result }
     ensures collecting { served.new.engine.collecting ≡ served.old.engine.collecting }
     ensures logs { served.new.engine.core.version.behind.logs ≡ served.old.engine.core.version.behind.logs }
     ensures handed { OnOk result (CanHandIn D.Watched D.Writer.Writer served.new.engine.disk served.new.engine.merging planned.new) }
@@ -199,7 +199,7 @@ fn choose<D: Disk>(
         → IfOk result (λ job. ForSome job (FitsReaders D.Held.bytes)) }
     // It is one of what the engine has; and it is planned exactly where none is open and there is one, whatever stands in the tables.
     ensures base { IfOk result (λ job. ForSome job (λ job. job.base.version ≡ engine.old.core.version)) }
-    ensures there { PlansWhere (is_there D.Held.size choice engine.old.core.version) engine.old.merging result }
+    ensures there { PlansWhere (can_merge D.Held.size choice engine.old.core.version) engine.old.merging result }
     ensures merging { OpensMerge engine.old.merging engine.new.merging result }
     ensures core { engine.new.core ≡ engine.old.core }
     ensures disk { engine.new.disk ≡ engine.old.disk }

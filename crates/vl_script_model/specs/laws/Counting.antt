@@ -72,7 +72,7 @@ module _ (s : things.State) where
 
       of : (halted : Option FileName) → Next (fresh_unless halted l h)
       of (Some file) then = refl
-      of None = by (has_no_number l.next_table 1)
+      of None then = by (has_no_number l.next_table 1) then
 
   fill_gives : (output : List (List Entry)) (name : Name) (job : Job) (l : Layout) (numbers : List ℕ) (calls : ℕ)
       → Gives l calls (fill s name job l output numbers calls)

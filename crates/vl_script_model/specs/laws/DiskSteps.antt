@@ -98,7 +98,7 @@ counted_commits g holds s most disk (u, history, layout, calls, files, held) = r
   numbers = (let same = ap (λ (l : Layout). l.next_table) layout in omega (arith, same));
   files = omega (arith, files);
   calls = calls;
-  unchanged = λ same. (u, history, layout, calls, files, held);
+  unchanged = λ none. (u, history, layout, calls, files, held);
 }
 
 -- and so does what holds the state

@@ -193,9 +193,8 @@ module _ {D : Type 0} (g : Ghosts D) (watched : IsWatched g) (s : State) (text :
       numbers = counts.numbers;
       files = counts.files;
       calls = refl;
-      unchanged = λ same.
+      unchanged = λ alone.
           let files = counts.files in
-          let alone : (step_to s line).calls ≡ 0 = omega (arith, files, same) in
           let numbers = counts.numbers in
           it_holds g watched IsStored Shown IsStopped shown_stays stored_exactly s new (record {
             calls = held.calls ∙ ap (λ (n : ℕ). after_calls n s.calls) alone;
@@ -203,7 +202,8 @@ module _ {D : Type 0} (g : Ghosts D) (watched : IsWatched g) (s : State) (text :
               held.there.0,
               held.there.1,
               stored_beside s (state_after s line) held.there.0 (line_keeps s line unnumbered) stays
-                  (omega (arith, numbers, alone)) same before.there.2.openable before.there.2.tidy held.there.2,
+                  (omega (arith, numbers, alone)) (omega (arith, files, alone)) before.there.2.openable before.there.2.tidy
+                  held.there.2,
             );
           });
     }

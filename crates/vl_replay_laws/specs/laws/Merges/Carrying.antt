@@ -170,14 +170,9 @@ module _ {D H R : Type 0} (g : Ghosts D) (watched : IsWatched g) (bytes : H → 
         of (suc n) few (inr le) = let more = fill_more s.store name j (outputs j) (with_job j l) [] 0 n running
             (omega (arith, few)) (omega (arith, le)) in omega (arith, more)
 
-    -- where the line makes no file nothing was changed
-    unchanged_held : (HaltsByDisk result → ⊥) → (few : count ≤ length (outputs j)) → (count ≡ 0)
-        ⊎ (l.next_table + count ≤ max_file_number + 1)
-        → behind.files ≡ s.files → HoldsState g IsStored s new
-    unchanged_held fine few fits same =
-        let least = calls_least few fits in
-        let made = files_for choice s name in
-        let none : count ≡ 0 = omega (arith, least, same, made) in
+    -- where no number was drawn nothing was changed
+    unchanged_held : (HaltsByDisk result → ⊥) → count ≡ 0 → HoldsState g IsStored s new
+    unchanged_held fine none =
         let held = subst (λ (n : ℕ). HoldsState g IsStored (drawn_state n (planned_state j s)) new) none (drew.held fine) in
         record {
           calls = held.calls;
@@ -205,7 +200,7 @@ module _ {D H R : Type 0} (g : Ghosts D) (watched : IsWatched g) (bytes : H → 
           numbers = drawn_next count (with_job j l);
           files = refl;
           calls = refl;
-          unchanged = λ same. (s, refl, refl, refl, refl, unchanged_held fine few fits same);
+          unchanged = λ none. (s, refl, refl, refl, refl, unchanged_held fine none);
         }
 
     -- what a crash meanwhile leaves shows the commits

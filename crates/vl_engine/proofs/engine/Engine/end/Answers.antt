@@ -1,4 +1,4 @@
-use Rattle.std.proofs.Common.{refl, not, subst, sym}
+use Rattle.std.proofs.Common.{◌≡◌, true, refl, not, subst, sym}
 use Rattle.std.specs.List.{filter}
 use Rattle.std.specs.Prelude.{◌==◌}
 use Rattle.vl_engine_laws.specs.laws.Knowing.{knows_of}
@@ -11,7 +11,14 @@ use Rattle.vl_engine_model.specs.declared.live.Live.{Live}
 use Rattle.vl_pins.specs.Pins.{ArePinsOf}
 use Rattle.vl_pins.specs.declared.pins.Pins.{Pins}
 use Rattle.vl_pins.specs.laws.PinLaws.{pins_ended}
+use Rattle.vl_engine_laws.specs.Known.{are_known}
+use Rattle.vl_oracle.specs.LiveTickets.{LiveTickets}
 use Rattle.vl_engine.proofs.engine.Engine.end.Goals as goal
+
+pub invariant_of-self-clause-known : goal.invariant_of-self-clause-known
+invariant_of-self-clause-known g c =
+    subst (λ (o : LiveTickets). are_known o.last c.args.self.now.core.version.active.entries ≡ true) (sym c.end.ensures.oracle)
+    c.args.self.now.known
 
 pub invariant_of-self-clause-pinned : goal.invariant_of-self-clause-pinned
 invariant_of-self-clause-pinned g c =

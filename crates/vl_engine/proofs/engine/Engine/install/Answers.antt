@@ -17,7 +17,7 @@ use Rattle.vl_steps.specs.declared.fails.InstallFail.TheVariants as fails
 use Rattle.vl_engine_model.specs.Decides.{no_effects}
 use Rattle.vl_engine_laws.specs.Represents.{file_of}
 use Rattle.vl_engine_model.specs.Rulings.Install as ruling
-use Rattle.std.proofs.Common.{length, subst, sym}
+use Rattle.std.proofs.Common.{ap, length, subst, sym}
 use Rattle.vl_engine_laws.specs.declared.kept.Core.{Core}
 use Rattle.vl_steps.specs.laws.Flushed.{runs_on}
 use Rattle.vl_engine.proofs.LeftRemoved.{halted_none, removes_left, room_left, there_left}

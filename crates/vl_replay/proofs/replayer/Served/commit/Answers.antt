@@ -334,7 +334,7 @@ returns-in-Err-NoMemory-clause-carries g c s stands =
     short_carries g.D.Watched bytes core then c.args.self.now.engine.disk c.commit.new.self.disk os s stands
     c.commit.ensures.steps c.args.name txn t b there is _ _
     (λ represents. c.in-Err-NoMemory.ensures.carries (history_of s) s.store.layout t.reads represents is.live is.sees.notes)
-    c.commit.ensures.files (c.in-Err-NoMemory.ensures.untouched tt)
+    c.commit.ensures.files ((rw c.in-Err-NoMemory.field-0-is at c.in-Err-NoMemory.ensures.untouched) tt)
 
 pub returns-in-Err-Disk-clause-carries : goal.returns-in-Err-Disk-clause-carries
 returns-in-Err-Disk-clause-carries g c s stands =
@@ -420,7 +420,7 @@ returns-in_err-put-in-Err-Exhausted-clause-carries g c s stands =
     (short_carries g.D.Watched bytes core then c.args.self.now.engine.disk c.commit.new.self.disk os s stands
     c.commit.ensures.steps c.args.name txn t b there is _ _
     (λ represents. c.in-Err-Exhausted.ensures.carries (history_of s) s.store.layout t.reads represents is.live is.sees.notes)
-    c.commit.ensures.files (c.in-Err-Exhausted.ensures.untouched tt))
+    c.commit.ensures.files ((rw c.in-Err-Exhausted.field-0-is at c.in-Err-Exhausted.ensures.untouched) tt))
 
 pub returns-in_err-put-in-Err-Full-clause-carries : goal.returns-in_err-put-in-Err-Full-clause-carries
 returns-in_err-put-in-Err-Full-clause-carries g c s stands =
@@ -439,7 +439,7 @@ returns-in_err-put-in-Err-Full-clause-carries g c s stands =
     (short_carries g.D.Watched bytes core then c.args.self.now.engine.disk c.commit.new.self.disk os s stands
     c.commit.ensures.steps c.args.name txn t b there is _ _
     (λ represents. c.in-Err-Full.ensures.carries (history_of s) s.store.layout t.reads represents is.live is.sees.notes)
-    c.commit.ensures.files (c.in-Err-Full.ensures.untouched tt))
+    c.commit.ensures.files ((rw c.in-Err-Full.field-0-is at c.in-Err-Full.ensures.untouched) tt))
 
 pub returns-in-None-clause-removes : goal.returns-in-None-clause-removes
 returns-in-None-clause-removes g c s stands removes =

@@ -1,6 +1,6 @@
 -- What the engine keeps of which files can go is what its call leaves, and whether there is a merge is said of either choice.
 use Rattle.std.proofs.Common.{subst, sym}
-use Rattle.vl_replay.specs.AsCalled.{is_there}
+use Rattle.vl_replay.specs.AsCalled.{can_merge}
 use Rattle.vl_steps.specs.Merging.{plan_outcome}
 use Rattle.vl_steps.specs.Planning.{PlansWhere}
 use Rattle.vl_space.specs.Removing.{Removes}
@@ -20,10 +20,10 @@ returns-in-LeadsInto-clause-removes g c h l is removes =
 
 pub returns-in-Due-clause-there : goal.returns-in-Due-clause-there
 returns-in-Due-clause-there g c =
-    subst (λ choice. PlansWhere (is_there g.D.Held.HeldFile.size choice c.args.engine.now.core.version) c.args.engine.now.merging
+    subst (λ choice. PlansWhere (can_merge g.D.Held.HeldFile.size choice c.args.engine.now.core.version) c.args.engine.now.merging
     c.plan.result) (sym c.in-Due.is) c.plan.ensures.due
 
 pub returns-in-LeadsInto-clause-there : goal.returns-in-LeadsInto-clause-there
 returns-in-LeadsInto-clause-there g c =
-    subst (λ choice. PlansWhere (is_there g.D.Held.HeldFile.size choice c.args.engine.now.core.version) c.args.engine.now.merging
+    subst (λ choice. PlansWhere (can_merge g.D.Held.HeldFile.size choice c.args.engine.now.core.version) c.args.engine.now.merging
     c.drain.result) (sym c.in-LeadsInto.is) c.drain.ensures.leads

@@ -16,7 +16,7 @@ use Rattle.vl_replay_laws.specs.Drawn.{drawn_all}
 use Rattle.vl_script_model.specs.Durable.{CarriesOut, LeadsTo}
 use Rattle.vl_replay_laws.specs.Choosing.{chosen, line_for}
 use Rattle.vl_replay_laws.specs.Replaying.{Merges}
-use Rattle.vl_replay.specs.AsCalled.{is_there}
+use Rattle.vl_replay.specs.AsCalled.{can_merge}
 use Rattle.vl_replay.specs.Served.{StandsMerging}
 use Rattle.vl_script_model.specs.Sequential.{State, history_of, state_after, step_to}
 use Rattle.vl_script_model.specs.Stored.{IsStopped, IsStored}
@@ -526,31 +526,35 @@ returns-in-Ok-Some-clause-removes g c s stands bare removes =
 -- ---- what it is answered, whatever the disk holds
 
 pub returns-then-is_some-clause-as_called : goal.returns-then-is_some-clause-as_called
-returns-then-is_some-clause-as_called g c = inl (
-  tt,
-  λ idle. ap (λ (b : Bool). not b && is_there g.D.Held.HeldFile.size c.args.choice c.args.served.now.engine.core.version) (waits_open g.D.Watched g.D.Writer.Writer c.args.served.now.engine.disk
-      c.args.served.now.engine.merging c.args.planned.now c.requires (sym c.is_some.ensures ∙ c.if-is_some.true)),
+returns-then-is_some-clause-as_called g c = (
+  λ idle. ap (λ (b : Bool). not b && can_merge g.D.Held.HeldFile.size c.args.choice c.args.served.now.engine.core.version)
+      (waits_open g.D.Watched g.D.Writer.Writer c.args.served.now.engine.disk c.args.served.now.engine.merging c.args.planned.now
+      c.requires (sym c.is_some.ensures ∙ c.if-is_some.true)),
+  inl tt,
 )
 
 pub returns-in_err-job-clause-as_called : goal.returns-in_err-job-clause-as_called
-returns-in_err-job-clause-as_called g c = inl (
-  err_reads_well c.from_residual.result c.from_residual.ensures.1,
+returns-in_err-job-clause-as_called g c = (
   λ idle. absurd (ok_not_err c.from_residual.result (ap is_ok idle) c.from_residual.ensures.0),
+  inl (err_reads_well c.from_residual.result c.from_residual.ensures.1),
 )
 
 pub returns-in_default-clause-as_called : goal.returns-in_default-clause-as_called
-returns-in_default-clause-as_called g c = inl (tt, λ idle. sym c.in_ok-job.ensures.there ∙ ap is_some c.in_default.is)
+returns-in_default-clause-as_called g c = (λ idle. sym c.in_ok-job.ensures.there ∙ ap is_some c.in_default.is, inl tt)
 
 pub returns-in-Ok-None-clause-as_called : goal.returns-in-Ok-None-clause-as_called
-returns-in-Ok-None-clause-as_called g c = inl (tt, λ idle. cc)
+returns-in-Ok-None-clause-as_called g c = (λ idle. cc, inl tt)
 
 pub returns-in-Ok-Some-clause-as_called : goal.returns-in-Ok-Some-clause-as_called
-returns-in-Ok-Some-clause-as_called g c = inl (tt, λ idle. cc)
+returns-in-Ok-Some-clause-as_called g c = (λ idle. cc, inl tt)
 
 pub returns-in-Err-clause-as_called : goal.returns-in-Err-clause-as_called
-returns-in-Err-clause-as_called g c = inr (
-  c.in-Some.job,
-  c.in_ok-job.ensures.base c.in-Some.job c.in-Some.is,
-  met_halt g.D.Held.HeldFile.bytes g.D.Reader.Reader.faults g.D.Writer.Writer _ c.in-Some.job (Option Counter) Answer c.in-Err.halt
-      c.in-Err.ensures.as_called,
+returns-in-Err-clause-as_called g c = (
+  λ idle. cc,
+  inr (
+    c.in-Some.job,
+    c.in_ok-job.ensures.base c.in-Some.job c.in-Some.is,
+    met_halt g.D.Held.HeldFile.bytes g.D.Reader.Reader.faults g.D.Writer.Writer _ c.in-Some.job (Option Counter) Answer c.in-Err.halt
+        c.in-Err.ensures.as_called,
+  ),
 )
