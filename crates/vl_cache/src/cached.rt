@@ -94,7 +94,7 @@ impl<R: Reader> Reader for Cached<R> {
     ghost use Rattle.std.specs.Prelude.{◌≡◌, ◌+◌, ◌≤◌, length, IsErr, Ok, OnOk};
     ghost use Rattle.std.specs.Option.{ForSome};
     ghost use Rattle.vl_disk.specs.DiskState.{bytes_at};
-    ghost use Rattle.vl_disk.specs.Faults.{HasCause, StaysSteady};
+    ghost use Rattle.vl_disk.specs.Faults.{HasCause};
     ghost use Rattle.lru.specs.LruCache.{lru_cache, promoted};
     ghost use Rattle.vl_cache.specs.Cache.{IsHit, block_eq};
     ghost use Rattle.vl_cache.specs.Reads.{GivesKept, Misses, block_of};
@@ -104,13 +104,10 @@ impl<R: Reader> Reader for Cached<R> {
 
     ghost faults = { λ c. R.faults c.inner };
 
-    ghost steady = { λ c. R.steady c.inner };
-
     fn read(&mut self, held: &R::Held, place: u64, out: &mut [u8]) -> Result<(), Failed>
         requires { place + length out.old ≤ R.Held.size held.now }
         ensures bytes { OnOk result (ForSome (R.Held.bytes held.now) (λ bytes. out.new ≡ bytes_at place (length out.old) bytes)) }
         ensures cause { HasCause (R.faults self.old.inner) (R.faults self.new.inner) (IsErr result) }
-        ensures steady { StaysSteady (R.steady self.old.inner) (R.steady self.new.inner) (IsErr result) }
 
         // A hit asks the reader below nothing, and a miss once. What is kept then is used first.
         ensures hit { (kept : Kept R.Held) → let block = block_of R.Held.named held.now place (length out.old) in

@@ -2,6 +2,7 @@
 use Rattle.std.specs.Prelude.{◌≡◌, ◌⊎◌, ℕ, Bool}
 use Rattle.vl_compact.specs.declared.job_reader.JobReader.{JobReader}
 use Rattle.vl_model.specs.Cursors.{IsCounted}
+use Rattle.vl_disk.specs.Faults.{never}
 use Rattle.vl_disk.specs.declared.read_fault.ReadFault.{ReadFault}
 use Rattle.vl_disk.specs.declared.read_fault.ReadFault.TheVariants.{NoMemory}
 
@@ -24,6 +25,11 @@ counts sources files old new = record {
 pub record NoneRose (c : Counts) : Type 0 where
   pub sources : c.sources_after ≡ c.sources_before
   pub files : c.files_after ≡ c.files_before
+
+-- neither of a job's readers ever fails
+pub record IsSure {R L : Type 0} (sources : L → ℕ) (files : R → ℕ) (reader : JobReader R L) : Type 0 where
+  pub looks_never : sources reader.looks ≡ never
+  pub files_never : files reader.files ≡ never
 
 -- memory was wanting
 pub record IsMemory (c : Counts) (fault : ReadFault) : Type 0 where

@@ -6,4 +6,5 @@ pub mod FirstTable
 pub mod ProgressLaws
 pub mod RaceLaws
 pub mod Repeats
+pub mod SureReaders
 pub mod WalkLaws

@@ -10,9 +10,23 @@ abbrev pub after_calls : ℕ → ℕ → ℕ
 after_calls zero count = count
 after_calls (suc n) count = one_more (after_calls n count)
 
+-- the count of what never fails, now or later, which no other count reaches
+abbrev pub never : ℕ
+never = 2 ^ 64
+
 -- a fault was counted between these two readings of one count; a count at its last value counts as risen
-abbrev pub Rose : ℕ → ℕ → Type 0
-Rose before now = one_more before ≤ now
+pub record Rose (before now : ℕ) : Type 0 where
+  pub later : before ≤ now
+  pub more : one_more before ≤ now
+  pub counts : now < never
+
+-- a fault was counted at all
+abbrev pub HasCounted : ℕ → Type 0
+HasCounted count = Rose 0 count
+
+-- none was
+pub record NoneCounted (count : ℕ) : Type 0 where
+  pub none : HasCounted count → ⊥
 
 -- a fault was counted where the call failed, and none where it didn't
 pub record HasCause (before now : ℕ) (failed : Type 0) : Type 0 where
@@ -20,10 +34,10 @@ pub record HasCause (before now : ℕ) (failed : Type 0) : Type 0 where
   pub rose : failed → Rose before now
   pub steady : (failed → ⊥) → now ≡ before
 
--- a call of what is steady doesn't fail, and leaves it steady
-pub record StaysSteady (before now failed : Type 0) : Type 0 where
-  pub never : before → failed → ⊥
-  pub stays : before → now
+-- the count of what was just given: no fault was counted, and none ever is where it is sure
+pub record IsNewCount (sure : Type 0) (count : ℕ) : Type 0 where
+  pub none : NoneCounted count
+  pub never_fails : sure → count ≡ never
 
 -- A fault was counted for each call past the stop, and for nothing else. The counts stand still at their last value.
 pub record CountsPastStop (stop calls faults : ℕ) : Type 0 where

@@ -1,4 +1,5 @@
 -- Laws of the definitions beside this folder, which proofs in other crates cite. Nothing here is needed to read a contract.
+pub mod Counting
 pub mod Lawful
 pub mod Lending
 pub mod NameMap

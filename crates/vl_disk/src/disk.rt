@@ -3,7 +3,7 @@ ghost use Rattle.std.specs.Option.{ForSome};
 ghost use Rattle.vl_disk.specs.declared.name.Name.{Name};
 ghost use Rattle.vl_disk.specs.Name.{IsNumbered};
 ghost use Rattle.vl_disk.specs.DiskState.{DiskState, IsLawful, bytes_at, file_at, new_file};
-ghost use Rattle.vl_disk.specs.Faults.{CountsPast};
+ghost use Rattle.vl_disk.specs.Faults.{CountsPast, IsNewCount};
 ghost use Rattle.vl_disk.specs.Disk.{Stands, IsFree, IsInside, Lists};
 ghost use Rattle.vl_disk.specs.Spare.{IsReady, CanAppend, SameSpare, SameSpareElsewhere, UsesHold};
 ghost use Rattle.vl_disk.specs.Calls.{ChangesNothing, Creates, Appends, Syncs, Cuts, Removes};
@@ -105,8 +105,7 @@ pub trait Disk: Watched {
         ensures named { IfOk result (λ writer. Self.Writer.named writer ≡ name) }
         ensures file { IfOk result (λ writer. ForSome (Self.told self.old)
             (λ _. Self.Writer.file writer ≡ Some new_file)) }
-        ensures faults { IfOk result (λ writer. Self.Writer.faults writer ≡ 0) }
-        ensures steady { IfOk result (λ writer. Self.gives_steady self.old → Self.Writer.steady writer) };
+        ensures faults { IfOk result (λ writer. IsNewCount (Self.gives_steady self.old) (Self.Writer.faults writer)) };
 
     /// Takes a file back that was lent, as its writer has it. It wants no memory and can't fail.
     fn adopt(&mut self, writer: Self::Writer)
@@ -116,8 +115,7 @@ pub trait Disk: Watched {
 
     /// A reader of the files that are held.
     fn reader(&self, alloc: Global) -> Result<Self::Reader, NoMemory>
-        ensures faults { IfOk result (λ reader. Self.Reader.faults reader ≡ 0) }
-        ensures steady { IfOk result (λ reader. Self.gives_steady self.now → Self.Reader.steady reader) };
+        ensures faults { IfOk result (λ reader. IsNewCount (Self.gives_steady self.now) (Self.Reader.faults reader)) };
 
     /// What it tells is lawful.
     ghost lawful: { (disk : Self) (state : DiskState) → Self.told disk ≡ Some state → IsLawful state };

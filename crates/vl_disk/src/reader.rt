@@ -3,7 +3,7 @@ ghost use Rattle.std.specs.Option.{ForSome};
 ghost use Rattle.vl_disk.specs.declared.name.Name.{Name};
 ghost use Rattle.vl_disk.specs.Held.{AgreeAt};
 ghost use Rattle.vl_disk.specs.DiskState.{bytes_at};
-ghost use Rattle.vl_disk.specs.Faults.{HasCause, StaysSteady};
+ghost use Rattle.vl_disk.specs.Faults.{HasCause};
 
 use crate::{Failed, Name};
 
@@ -49,17 +49,13 @@ pub trait HeldFile: Clone + Drop {
 pub trait Reader {
     type Held: HeldFile;
 
-    /// How often it has failed. The count never falls.
+    /// How often it has failed. The count never falls. It is `never` of one of which no read fails, now or later.
     ghost faults: { Self → ℕ };
-
-    /// It is steady: none of its reads fails, now or later.
-    ghost steady: { Self → Type 0 };
 
     /// Reads the bytes of a held file from a place on, as many as fill `out`. If it fails, `out` may hold anything.
     fn read(&mut self, held: &Self::Held, place: u64, out: &mut [u8]) -> Result<(), Failed>
         requires { place + length out.old ≤ Self.Held.size held.now }
         ensures bytes { OnOk result (ForSome (Self.Held.bytes held.now)
             (λ bytes. out.new ≡ bytes_at place (length out.old) bytes)) }
-        ensures cause { HasCause (faults self.old) (faults self.new) (IsErr result) }
-        ensures steady { StaysSteady (steady self.old) (steady self.new) (IsErr result) };
+        ensures cause { HasCause (faults self.old) (faults self.new) (IsErr result) };
 }

@@ -31,7 +31,7 @@ pub trait Watched {
     /// nothing.
     ghost fails_past: { Self → Option ℕ → Type 0 };
 
-    /// Whatever reads the files that it shares, or writes those that it lends, is steady: it never fails. A disk that can't
+    /// Whatever it gives that reads the files that it shares, or writes those that it lends, never fails. A disk that can't
     /// tell claims nothing.
     ghost gives_steady: { Self → Type 0 };
 }

@@ -1,7 +1,7 @@
 ghost use Rattle.std.specs.Prelude.{◌≡◌, ℕ, OnErr, OnOk, IsErr, IsErrOf, Option};
 ghost use Rattle.vl_disk.specs.declared.name.Name.{Name};
 ghost use Rattle.vl_disk.specs.DiskState.{File};
-ghost use Rattle.vl_disk.specs.Faults.{HasCause, StaysSteady};
+ghost use Rattle.vl_disk.specs.Faults.{HasCause};
 ghost use Rattle.vl_disk.specs.Lending.{TakesAll, TakesPart, Settles};
 
 use crate::{DiskFail, Failed};
@@ -14,11 +14,9 @@ pub trait Writer {
     /// Its file. One that doesn't tell it claims nothing of its bytes.
     ghost file: { Self → Option File };
 
-    /// How often it has failed. The count never falls.
+    /// How often it has failed. The count never falls. It is `never` of one of which no call fails, now or later, but for
+    /// want of memory.
     ghost faults: { Self → ℕ };
-
-    /// It is steady: none of its calls fails but for want of memory, now or later.
-    ghost steady: { Self → Type 0 };
 
     /// Puts a piece behind the end of the file. If it fails, the file has taken some first bytes of the piece; for want
     /// of memory it is as it was.
@@ -27,14 +25,12 @@ pub trait Writer {
         ensures appended { OnOk result (TakesAll piece.now (file self.old) (file self.new)) }
         ensures failed { IsErrOf result DiskFail.Failed → TakesPart piece.now (file self.old) (file self.new) }
         ensures memory { IsErrOf result DiskFail.NoMemory → file self.new ≡ file self.old }
-        ensures cause { HasCause (faults self.old) (faults self.new) (IsErrOf result DiskFail.Failed) }
-        ensures steady { StaysSteady (steady self.old) (steady self.new) (IsErrOf result DiskFail.Failed) };
+        ensures cause { HasCause (faults self.old) (faults self.new) (IsErrOf result DiskFail.Failed) };
 
     /// Makes the file durable. If it fails, nothing more is durable.
     fn sync(&mut self) -> Result<(), Failed>
         ensures named { named self.new ≡ named self.old }
         ensures synced { OnOk result (Settles (file self.old) (file self.new)) }
         ensures failed { OnErr result (file self.new ≡ file self.old) }
-        ensures cause { HasCause (faults self.old) (faults self.new) (IsErr result) }
-        ensures steady { StaysSteady (steady self.old) (steady self.new) (IsErr result) };
+        ensures cause { HasCause (faults self.old) (faults self.new) (IsErr result) };
 }

@@ -16,6 +16,7 @@ mod PutThere
 mod Refusing
 pub mod Retired
 mod StockExits
+mod Sure
 pub mod Sweeps
 mod Switching
 pub mod UnderWay

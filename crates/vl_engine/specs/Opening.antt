@@ -1,6 +1,7 @@
 -- What an opening gives, where a store was opened and where not.
 use Rattle.std.specs.Prelude.{◌≡◌, ℕ, Option, None, Some, Result, Ok, Err}
 use Rattle.vl_disk.specs.Crash.{Image}
+use Rattle.vl_disk.specs.Faults.{NoneCounted}
 use Rattle.vl_disk.specs.declared.watched.Watched.{Ghosts}
 use Rattle.vl_engine.specs.declared.engine.Engine.{Engine}
 use Rattle.vl_recover.specs.declared.fails.OpenError.{OpenError}
@@ -49,7 +50,7 @@ IsDiskFault read_faults (Some (why.NewerFormat format)) = ⊥
 IsDiskFault read_faults (Some (why.Damaged name place)) = ⊥
 IsDiskFault read_faults (Some (why.Exhausted counter)) = ⊥
 IsDiskFault read_faults (Some why.NoMemory) = ⊥
-IsDiskFault read_faults (Some (why.Disk name)) = read_faults ≡ 0
+IsDiskFault read_faults (Some (why.Disk name)) = NoneCounted read_faults
 
 -- the disk is as it was, and was asked for no changing call
 abbrev pub IsAsBefore : {D : Type 0} → Ghosts D → (old new : D) → Type 0

@@ -1,4 +1,5 @@
-ghost use Rattle.std.specs.Prelude.{◌≡◌, ◌+◌, ◌≤◌};
+ghost use Rattle.std.specs.Prelude.{◌+◌, ◌≤◌};
+ghost use Rattle.vl_disk.specs.Faults.{IsNewCount};
 
 use crate::held::FolderHeld;
 use std::alloc::Global;
@@ -15,8 +16,9 @@ pub struct FolderReader<R> {
 }
 
 impl<R: Files<File = File>> FolderReader<R> {
+    #[tactic(auto, using(vl_disk::specs::laws::Counting::counts_from_zero))]
     pub fn new(rt: R, alloc: Global) -> Self
-        ensures { ⟦<FolderReader<R> as Reader>⟧.faults result ≡ 0 }
+        ensures { IsNewCount ⊥ (⟦<FolderReader<R> as Reader>⟧.faults result) }
     {
         FolderReader {
             rt,
@@ -30,8 +32,6 @@ impl<R: Files<File = File>> Reader for FolderReader<R> {
     type Held = FolderHeld;
 
     ghost faults = { λ reader. reader.faults };
-
-    ghost steady = { λ _. ⊥ };
 
     fn read(&mut self, held: &FolderHeld, place: u64, out: &mut [u8]) -> Result<(), Failed> {
         if let Err(trouble) = held.read(&self.rt, self.alloc, place, out) {

@@ -14,10 +14,11 @@ pub struct FolderWriter {
 }
 
 impl FolderWriter {
-    ghost use Rattle.vl_disk.specs.Faults.{HasCause};
+    ghost use Rattle.vl_disk.specs.Faults.{HasCause, IsNewCount};
 
+    #[tactic(auto, using(vl_disk::specs::laws::Counting::counts_from_zero))]
     pub fn new(name: Name, lent: Lent) -> Self
-        ensures faults { ⟦<FolderWriter as Writer>⟧.faults result ≡ 0 }
+        ensures faults { IsNewCount ⊥ (⟦<FolderWriter as Writer>⟧.faults result) }
         ensures name { ⟦<FolderWriter as Writer>⟧.named result ≡ name }
     {
         FolderWriter {
@@ -51,8 +52,6 @@ impl Writer for FolderWriter {
     ghost file = { λ _. None };
 
     ghost faults = { λ writer. writer.faults };
-
-    ghost steady = { λ _. ⊥ };
 
     fn append(&mut self, piece: &[u8]) -> Result<(), DiskFail> {
         if let Err(trouble) = self.lent.file.append(piece) {

@@ -27,7 +27,7 @@ use Rattle.vl_mem.specs.declared.mem_disk.MemDisk.{MemDisk}
 use Rattle.vl_mem.specs.ChangePlan.{FollowsPlan}
 use Rattle.vl_mem.specs.Entry.{Entries, HasFiles, entry_of, file_of, plain, standing_in}
 use Rattle.vl_mem.specs.Event.{after_event, replayed-push, state_after, told_lawful, WasSince}
-use Rattle.vl_mem.specs.MemDisk.{state_of, told_by, room_of, failing_at, Goes, KeepsOtherWriters, KeepsWriters}
+use Rattle.vl_mem.specs.MemDisk.{state_of, told_by, room_of, failing_at, Goes, KeepsOtherWriters, KeepsWriters, in_all}
 use Rattle.vl_mem.specs.FailsPast.{FailsPast, changed_past, read_past, same_past}
 use Rattle.vl_mem.specs.Steady.{GivesSteady, gave_steady, keeps_steady}
 use Rattle.vl_mem.proofs.Steps.{stood}
@@ -105,11 +105,15 @@ pub counted : (old mid : MemDisk) (fails failed : Bool) → fails ≡ failed →
 counted old mid fails failed is events reads follows cause = subst (Counts old mid) is
     (record { events = events; reads = reads; follows = follows; cause = cause })
 
-cause_of : (a b rest : ℕ) (failed : Bool) → HasCause a b (IsTrue failed) → HasCause (a + rest) (b + rest) (IsTrue failed)
+cause_of : (a b rest : ℕ) (failed : Bool) → HasCause a b (IsTrue failed) → HasCause (in_all a rest) (in_all b rest) (IsTrue failed)
 cause_of a b rest failed cause = record {
   later = omega (arith, cause.later);
-  rose = λ fails. omega (arith, cause.rose fails, cause.later);
-  steady = λ passes. ap (λ n. n + rest) (cause.steady passes);
+  rose = λ fails. record {
+    later = omega (arith, cause.later);
+    more = omega (arith, (cause.rose fails).more, cause.later);
+    counts = omega arith;
+  };
+  steady = λ passes. ap (λ n. in_all n rest) (cause.steady passes);
 }
 
 module _ (old mid new : MemDisk) (failed : Bool) (counts : Counts old mid failed) (keeps : KeepsWriters old new) where
@@ -132,9 +136,9 @@ module _ (old mid new : MemDisk) (failed : Bool) (counts : Counts old mid failed
           (λ stop past. same_past mid new stop
           (changed_past old mid stop past (IsTrue failed) counts.follows counts.reads) goes.changes goes.reads)
           (keeps_steady old new (ap (λ p. p.failing) (goes.reads ∙ counts.reads)) keeps);
-      cause = subst (λ n. HasCause (old.changes.listed.faults + old.reads.faults) n (IsTrue failed))
-          (sym (ap (λ p. p.listed.faults + new.reads.faults) goes.changes
-          ∙ ap (λ p. mid.changes.listed.faults + p.faults) (goes.reads ∙ counts.reads)))
+      cause = subst (λ n. HasCause (in_all old.changes.listed.faults old.reads.faults) n (IsTrue failed))
+          (sym (ap (λ p. in_all p.listed.faults new.reads.faults) goes.changes
+          ∙ ap (λ p. in_all mid.changes.listed.faults p.faults) (goes.reads ∙ counts.reads)))
           (cause_of old.changes.listed.faults mid.changes.listed.faults old.reads.faults failed counts.cause);
     }
 
@@ -279,8 +283,8 @@ syncs_again name old new entry x stands counts keeps found whole spare = record 
     time = passes_still old new (While (told_by old) (WhileSyncing name)) counts.events
         (λ stop past. changed_past old new stop past (IsTrue false) counts.follows counts.reads)
         (keeps_steady old new (ap (λ p. p.failing) counts.reads) keeps);
-    cause = subst (λ n. HasCause (old.changes.listed.faults + old.reads.faults) n (IsTrue false))
-        (ap (λ p. new.changes.listed.faults + p.faults) (sym counts.reads))
+    cause = subst (λ n. HasCause (in_all old.changes.listed.faults old.reads.faults) n (IsTrue false))
+        (ap (λ p. in_all new.changes.listed.faults p.faults) (sym counts.reads))
         (cause_of old.changes.listed.faults new.changes.listed.faults old.reads.faults false counts.cause);
   };
   spare = spare;
@@ -295,11 +299,15 @@ syncs_again name old new entry x stands counts keeps found whole spare = record 
 
 -- ---- files that are lent
 
-cause_beside : (a b rest : ℕ) (failed : Bool) → HasCause a b (IsTrue failed) → HasCause (rest + a) (rest + b) (IsTrue failed)
+cause_beside : (a b rest : ℕ) (failed : Bool) → HasCause a b (IsTrue failed) → HasCause (in_all rest a) (in_all rest b) (IsTrue failed)
 cause_beside a b rest failed cause = record {
   later = omega (arith, cause.later);
-  rose = λ fails. omega (arith, cause.rose fails, cause.later);
-  steady = λ passes. ap (λ n. rest + n) (cause.steady passes);
+  rose = λ fails. record {
+    later = omega (arith, cause.later);
+    more = omega (arith, (cause.rose fails).more, cause.later);
+    counts = omega arith;
+  };
+  steady = λ passes. ap (λ n. in_all rest n) (cause.steady passes);
 }
 
 -- what one event made of what is told, and meanwhile
@@ -332,9 +340,9 @@ lends name old mid new fails is events changes follows cause keeps none goes spa
       time = time_after old new goes.event (without name) goes.does pushed (WhileRemoving name) (λ disk next is. inr is)
           (λ stop past. same_past mid new stop (read_past old mid stop past (IsTrue false) changes passed caused) goes.changes goes.reads)
           (gave_steady name old new (ap (λ p. p.failing) goes.reads ∙ passed.failing) keeps none);
-      cause = subst (λ n. HasCause (old.changes.listed.faults + old.reads.faults) n (IsTrue false))
-          (sym (ap (λ p. p.listed.faults + new.reads.faults) (goes.changes ∙ changes)
-          ∙ ap (λ p. old.changes.listed.faults + p.faults) goes.reads))
+      cause = subst (λ n. HasCause (in_all old.changes.listed.faults old.reads.faults) n (IsTrue false))
+          (sym (ap (λ p. in_all p.listed.faults new.reads.faults) (goes.changes ∙ changes)
+          ∙ ap (λ p. in_all old.changes.listed.faults p.faults) goes.reads))
           (cause_beside old.reads.faults mid.reads.faults old.changes.listed.faults false caused);
       spare = λ _. spare;
       spare_kept = λ failed. absurd (false_true failed);
@@ -355,7 +363,7 @@ adopts name given file left old new same is keeps goes spare =
           (λ disk next turned. inr (λ f here. turned ∙ ap (λ g. adopted name g disk) (some_file left f here)))
           (λ stop past. same_past old new stop past goes.changes goes.reads)
           (keeps_steady old new (ap (λ p. p.failing) goes.reads) keeps);
-      faults = ap (λ p. p.listed.faults + new.reads.faults) goes.changes ∙ ap (λ p. old.changes.listed.faults + p.faults) goes.reads;
+      faults = ap (λ p. in_all p.listed.faults new.reads.faults) goes.changes ∙ ap (λ p. in_all old.changes.listed.faults p.faults) goes.reads;
       spare = spare;
     }))
   where

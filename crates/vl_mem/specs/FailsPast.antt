@@ -1,5 +1,5 @@
 -- A disk in memory of which nothing fails but its changing calls past a stop, or nothing at all.
-use Rattle.std.specs.Prelude.{◌≡◌, ◌⊎◌, ℕ, ◌+◌, ◌<◌, ◌≤◌, List, [], Contains, Option, None, Some, IsSomeAnd}
+use Rattle.std.specs.Prelude.{◌≡◌, ◌⊎◌, ℕ, ◌+◌, ◌-◌, ◌^◌, ◌<◌, ◌≤◌, List, [], Contains, Option, None, Some, IsSomeAnd}
 use Rattle.std.proofs.Common.{inr, ⊎_elim, sym, ◌∙◌, ap, subst, arith}
 use Rattle.vl_disk.specs.FaultPlan as listed
 use Rattle.vl_disk.specs.FaultPlan.{Plan, new_plan}
@@ -12,6 +12,8 @@ use Rattle.vl_mem.specs.MemDisk.{changes_of, faults_of, reads_of}
 pub record FailsPast (disk : MemDisk) (stop : Option ℕ) : Type 0 where
   pub listed : (changes_of disk).listed.failing ≡ []
   pub stops : (changes_of disk).stop ≡ stop
+  -- the count of calls stands still at its last value
+  pub few : (changes_of disk).listed.calls ≤ 2 ^ 64 - 1
   pub faults : CountsPast stop (changes_of disk).listed.calls (changes_of disk).listed.faults
   pub listed_reads : (reads_of disk).failing ≡ []
   pub read_faults : (reads_of disk).faults ≡ 0
@@ -81,6 +83,7 @@ pub never_fails : (disk : MemDisk) → changes_of disk ≡ new_changes [] → re
 never_fails disk changes reads = record {
   listed = ap (λ (p : ChangePlan). p.listed.failing) changes;
   stops = ap (λ (p : ChangePlan). p.stop) changes;
+  few = let none : (changes_of disk).listed.calls ≡ 0 = ap (λ (p : ChangePlan). p.listed.calls) changes in omega (arith, none);
   faults = ap (λ (p : ChangePlan). p.listed.faults) changes;
   listed_reads = ap (λ (p : Plan). p.failing) reads;
   read_faults = ap (λ (p : Plan). p.faults) reads;
@@ -95,6 +98,7 @@ stops_after count old new never changes reads =
     record {
       listed = ap (λ (p : ChangePlan). p.listed.failing) changes ∙ never.listed;
       stops = ap (λ (p : ChangePlan). p.stop) changes;
+      few = omega (arith, calls, never.few);
       faults = record { at_least = omega (arith, calls, faults); exactly = λ more. omega (arith, calls, faults) };
       listed_reads = ap (λ (p : Plan). p.failing) reads ∙ never.listed_reads;
       read_faults = ap (λ (p : Plan). p.faults) reads ∙ never.read_faults;
@@ -107,6 +111,7 @@ module _ (old new : MemDisk) (stop : Option ℕ) (past : FailsPast old stop) whe
   changed_past failed follows reads = record {
     listed = follows.failing ∙ past.listed;
     stops = follows.stop ∙ past.stops;
+    few = omega (arith, follows.calls);
     faults = counts_on stop (changes_of old) (changes_of new) failed past.listed past.stops follows past.faults;
     listed_reads = ap (λ (p : Plan). p.failing) reads ∙ past.listed_reads;
     read_faults = ap (λ (p : Plan). p.faults) reads ∙ past.read_faults;
@@ -117,6 +122,7 @@ module _ (old new : MemDisk) (stop : Option ℕ) (past : FailsPast old stop) whe
   read_past failed changes follows cause = record {
     listed = ap (λ (p : ChangePlan). p.listed.failing) changes ∙ past.listed;
     stops = ap (λ (p : ChangePlan). p.stop) changes ∙ past.stops;
+    few = subst (λ (p : ChangePlan). p.listed.calls ≤ 2 ^ 64 - 1) (sym changes) past.few;
     faults = subst (λ (p : ChangePlan). CountsPast stop p.listed.calls p.listed.faults) (sym changes) past.faults;
     listed_reads = follows.failing ∙ past.listed_reads;
     read_faults = cause.steady (λ f. none_listed (reads_of old) past.listed_reads (follows.exactly.0 f)) ∙ past.read_faults;
@@ -126,6 +132,7 @@ module _ (old new : MemDisk) (stop : Option ℕ) (past : FailsPast old stop) whe
   same_past changes reads = record {
     listed = ap (λ (p : ChangePlan). p.listed.failing) changes ∙ past.listed;
     stops = ap (λ (p : ChangePlan). p.stop) changes ∙ past.stops;
+    few = subst (λ (p : ChangePlan). p.listed.calls ≤ 2 ^ 64 - 1) (sym changes) past.few;
     faults = subst (λ (p : ChangePlan). CountsPast stop p.listed.calls p.listed.faults) (sym changes) past.faults;
     listed_reads = ap (λ (p : Plan). p.failing) reads ∙ past.listed_reads;
     read_faults = ap (λ (p : Plan). p.faults) reads ∙ past.read_faults;
@@ -134,7 +141,12 @@ module _ (old new : MemDisk) (stop : Option ℕ) (past : FailsPast old stop) whe
 -- the faults of such a disk
 pub counted_past : (disk : MemDisk) (stop : Option ℕ) → FailsPast disk stop
     → CountsPast stop (changes_of disk).listed.calls (faults_of disk)
-counted_past disk stop past = subst (CountsPast stop (changes_of disk).listed.calls) all past.faults
+counted_past disk stop past = of stop past.faults
   where
-    all : (changes_of disk).listed.faults ≡ faults_of disk
-    all = omega (arith, past.read_faults)
+    of : (stop : Option ℕ) → CountsPast stop (changes_of disk).listed.calls (changes_of disk).listed.faults
+        → CountsPast stop (changes_of disk).listed.calls (faults_of disk)
+    of None none = omega (arith, none, past.read_faults)
+    of (Some count) counts = record {
+      at_least = omega (arith, counts.at_least, past.few);
+      exactly = λ more. omega (arith, counts.exactly more, more, past.read_faults);
+    }

@@ -1,5 +1,5 @@
 -- A disk in memory as its callers see it.
-use Rattle.std.specs.Prelude.{◌≡◌, ◌≢◌, ◌↔◌, ℕ, ◌+◌, List, [], ◌∷◌, ◌++◌, length, Option, Some}
+use Rattle.std.specs.Prelude.{◌≡◌, ◌≢◌, ◌↔◌, ℕ, ◌+◌, ◌-◌, ◌^◌, min, List, [], ◌∷◌, ◌++◌, length, Option, Some}
 use Rattle.vl_disk.specs.declared.name.Name.{Name}
 use Rattle.vl_disk.specs.DiskState.{DiskState, File}
 use Rattle.vl_disk.specs.FaultPlan.{Follows, Plan}
@@ -25,8 +25,12 @@ moment_of disk = length disk.events.items
 abbrev pub was_since : MemDisk → ℕ → DiskState → Type 0
 was_since disk = WasSince disk.events.items
 
+-- how many calls failed, changing ones and others; the count stands still at its last value
+abbrev pub in_all : ℕ → ℕ → ℕ
+in_all changes reads = min (changes + reads) (2 ^ 64 - 1)
+
 abbrev pub faults_of : MemDisk → ℕ
-faults_of disk = disk.changes.listed.faults + disk.reads.faults
+faults_of disk = in_all disk.changes.listed.faults disk.reads.faults
 
 abbrev pub room_of : MemDisk → Name → Spare
 room_of disk name = spare_of (entry_of disk.entries name)

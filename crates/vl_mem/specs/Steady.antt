@@ -1,14 +1,24 @@
 -- Disks in memory whose readers and writers never fail.
-use Rattle.std.specs.Prelude.{◌≡◌, ◌≢◌, []}
-use Rattle.std.proofs.Common.{◌∙◌, ap, ⊎_elim}
+use Rattle.std.specs.Prelude.{◌≡◌, ◌≢◌, ℕ, List, [], ◌∷◌}
+use Rattle.std.proofs.Common.{◌∙◌, ap, refl, sym, subst, ⊎_elim, arith}
 use Rattle.vl_disk.specs.declared.name.Name.{Name}
+use Rattle.vl_disk.specs.laws.Counting.{never_counted, none_counted}
 use Rattle.vl_disk.specs.laws.NameMap.{same_or_other}
-use Rattle.vl_disk.specs.FaultPlan.{Follows, Plan}
-use Rattle.vl_disk.specs.Faults.{StaysSteady}
+use Rattle.vl_disk.specs.FaultPlan.{Follows, Plan, new_plan}
+use Rattle.vl_disk.specs.Faults.{HasCause, IsNewCount, NoneCounted, never}
 use Rattle.vl_mem.specs.Entry.{NoneFail}
 use Rattle.vl_mem.specs.FailsPast.{none_listed}
 use Rattle.vl_mem.specs.MemDisk.{failing_at, reads_of, writers_of, KeepsOtherWriters, KeepsWriters}
 use Rattle.vl_mem.specs.declared.mem_disk.MemDisk.{MemDisk}
+
+-- what counts faults of which just these calls fail: it never fails where there are none
+abbrev pub count_among : (failing : List ℕ) (faults : ℕ) → ℕ
+count_among [] faults = never
+count_among (first ∷ others) faults = faults
+
+-- the count of a reader or a writer
+abbrev pub count_of : Plan → ℕ
+count_of plan = count_among plan.failing plan.faults
 
 -- no call is listed that is to fail
 abbrev pub IsSteady : Plan → Type 0
@@ -20,16 +30,38 @@ pub record GivesSteady (disk : MemDisk) : Type 0 where
   pub writers : writers_of disk ≡ []
   pub ready : NoneFail disk.entries
 
--- ---- it stays so
+-- ---- how the count of a reader or a writer begins, and rises
 
--- of a plan by each call
-pub follows_steady : (old new : Plan) (failed : Type 0) → Follows old new failed → StaysSteady (IsSteady old) (IsSteady new) failed
-follows_steady old new failed follows = record {
-  never = λ none fails. none_listed old none (follows.exactly.0 fails);
-  stays = λ none. follows.failing ∙ none;
-}
+pub new_count : (sure : Type 0) (failing : List ℕ) (plan : Plan) → plan ≡ new_plan failing → (sure → failing ≡ [])
+    → IsNewCount sure (count_of plan)
+new_count sure failing plan is none = subst (λ (p : Plan). IsNewCount sure (count_of p)) (sym is)
+    (record { none = uncounted failing; never_fails = λ yes. steady failing (none yes) })
+  where
+    uncounted : (fs : List ℕ) → NoneCounted (count_of (new_plan fs))
+    uncounted [] = never_counted
+    uncounted (f ∷ fs) = none_counted
 
--- of a disk by what leaves the lists as they are
+    steady : (fs : List ℕ) → fs ≡ [] → count_of (new_plan fs) ≡ never
+    steady [] is = refl
+    steady (f ∷ fs) is = absurd cc
+
+pub count_cause : (old new : Plan) (failed : Type 0) → Follows old new failed → HasCause old.faults new.faults failed
+    → HasCause (count_of old) (count_of new) failed
+count_cause old new failed follows cause = subst
+    (λ (fs : List ℕ). HasCause (count_of old) (count_among fs new.faults) failed) (sym follows.failing)
+    (of old.failing (λ none fails. none_listed old none (follows.exactly.0 fails)))
+  where
+    of : (fs : List ℕ) → (fs ≡ [] → failed → ⊥) → HasCause (count_among fs old.faults) (count_among fs new.faults) failed
+    of [] none = record {
+      later = omega arith;
+      rose = λ fails. absurd (none refl fails);
+      steady = λ _. refl;
+    }
+    of (f ∷ fs) some = cause
+
+-- ---- a disk stays so
+
+-- by what leaves the lists as they are
 pub keeps_steady : (old new : MemDisk) → (reads_of new).failing ≡ (reads_of old).failing → KeepsWriters old new
     → GivesSteady old → GivesSteady new
 keeps_steady old new reads keeps steady = record {

@@ -204,7 +204,8 @@ impl Disk for MemDisk {
     ghost use Rattle.vl_mem.specs.MemDisk.{writes_of, file_by, CountsChange, CountsRead, KeepsOtherWriters};
     ghost use Rattle.vl_mem.specs.MemDisk.{KeepsWriters};
     ghost use Rattle.vl_mem.specs.FailsPast.{counted_past};
-    ghost use Rattle.vl_mem.specs.Steady.{GivesSteady, IsSteady};
+    ghost use Rattle.vl_mem.specs.Steady.{GivesSteady};
+    ghost use Rattle.vl_disk.specs.Faults.{IsNewCount};
 
     ghost lawful = { λ m. told_lawful m.events.items m.kept.sound };
 
@@ -380,6 +381,7 @@ impl Disk for MemDisk {
         Ok(MemHeld::new(self.alloc, name, copy))
     }
 
+    #[tactic(auto, using(crate::specs::Steady::new_count))]
     fn lend(&mut self, name: Name) -> Result<MemWriter, Failed>
         requires just_made { ForSome (told_by self.old) (IsJustMade name) }
         requires room { IsTrue (room_of self.old name).lend }
@@ -387,8 +389,7 @@ impl Disk for MemDisk {
         ensures named { IfOk result (λ writer. ⟦<MemWriter as Writer>⟧.named writer ≡ name) }
         ensures file { IfOk result (λ writer. ForSome (told_by self.old)
             (λ _. ⟦<MemWriter as Writer>⟧.file writer ≡ Some new_file)) }
-        ensures faults { IfOk result (λ writer. ⟦<MemWriter as Writer>⟧.faults writer ≡ 0) }
-        ensures steady { IfOk result (λ writer. GivesSteady self.old → IsSteady (writes_of writer)) }
+        ensures faults { IfOk result (λ writer. IsNewCount (GivesSteady self.old) (⟦<MemWriter as Writer>⟧.faults writer)) }
         ensures counts { CountsRead self.old self.new (IsErr result) }
         ensures writers { OnErr result (KeepsWriters self.old self.new) }
         ensures other_writers { KeepsOtherWriters name self.old self.new }
@@ -414,9 +415,9 @@ impl Disk for MemDisk {
         self.take_back(writer.into_returned());
     }
 
+    #[tactic(auto, using(crate::specs::Steady::new_count))]
     fn reader(&self, alloc: Global) -> Result<MemReader, NoMemory>
-        ensures faults { IfOk result (λ reader. ⟦<MemReader as Reader>⟧.faults reader ≡ 0) }
-        ensures steady { IfOk result (λ reader. GivesSteady self.now → IsSteady (reads_by reader)) }
+        ensures faults { IfOk result (λ reader. IsNewCount (GivesSteady self.now) (⟦<MemReader as Reader>⟧.faults reader)) }
 
         // Of its reads those fail that are listed for the disk's calls, counted anew.
         ensures plan { IfOk result (λ reader. reads_by reader ≡ new_plan (reads_of self.now).failing) }

@@ -131,27 +131,24 @@ impl MemWriter {
 impl Writer for MemWriter {
     ghost use Rattle.std.specs.Prelude.{◌≡◌, OnErr, OnOk, IsErr, IsErrOf};
     ghost use Rattle.vl_disk.specs.FaultPlan.{Follows};
-    ghost use Rattle.vl_disk.specs.Faults.{HasCause, StaysSteady};
+    ghost use Rattle.vl_disk.specs.Faults.{HasCause};
     ghost use Rattle.vl_disk.specs.Lending.{Settles, Takes, TakesAll, TakesPart};
     ghost use Rattle.vl_mem.specs.MemDisk.{file_by, writes_of};
-    ghost use Rattle.vl_mem.specs.Steady.{IsSteady};
+    ghost use Rattle.vl_mem.specs.Steady.{count_of};
 
     ghost named = { λ writer. writer.name };
 
     ghost file = { file_by };
 
-    ghost faults = { λ writer. (writes_of writer).faults };
+    ghost faults = { λ writer. count_of (writes_of writer) };
 
-    ghost steady = { λ writer. IsSteady (writes_of writer) };
-
+    #[tactic(auto, using(crate::specs::Steady::count_cause))]
     fn append(&mut self, piece: &[u8]) -> Result<(), DiskFail>
         ensures named { self.new.name ≡ self.old.name }
         ensures appended { OnOk result (TakesAll piece.now (file_by self.old) (file_by self.new)) }
         ensures failed { IsErrOf result DiskFail.Failed → TakesPart piece.now (file_by self.old) (file_by self.new) }
         ensures memory { IsErrOf result DiskFail.NoMemory → file_by self.new ≡ file_by self.old }
-        ensures cause { HasCause (writes_of self.old).faults (writes_of self.new).faults (IsErrOf result DiskFail.Failed) }
-        ensures steady { StaysSteady (IsSteady (writes_of self.old)) (IsSteady (writes_of self.new))
-            (IsErrOf result DiskFail.Failed) }
+        ensures cause { HasCause (count_of (writes_of self.old)) (count_of (writes_of self.new)) (IsErrOf result DiskFail.Failed) }
 
         // A call that finds no memory isn't counted. One that fails takes nothing, and its piece is unsynced.
         ensures uncounted { IsErrOf result DiskFail.NoMemory → writes_of self.new ≡ writes_of self.old }
@@ -169,12 +166,12 @@ impl Writer for MemWriter {
         Ok(())
     }
 
+    #[tactic(auto, using(crate::specs::Steady::count_cause))]
     fn sync(&mut self) -> Result<(), Failed>
         ensures named { self.new.name ≡ self.old.name }
         ensures synced { OnOk result (Settles (file_by self.old) (file_by self.new)) }
         ensures failed { OnErr result (file_by self.new ≡ file_by self.old) }
-        ensures cause { HasCause (writes_of self.old).faults (writes_of self.new).faults (IsErr result) }
-        ensures steady { StaysSteady (IsSteady (writes_of self.old)) (IsSteady (writes_of self.new)) (IsErr result) }
+        ensures cause { HasCause (count_of (writes_of self.old)) (count_of (writes_of self.new)) (IsErr result) }
         ensures counts { Follows (writes_of self.old) (writes_of self.new) (IsErr result) }
     {
         if self.plan.fails() {

@@ -12,13 +12,11 @@ use vl_disk::{Failed, HeldFile, Reader};
 pub struct SteadyReader {}
 
 impl Reader for SteadyReader {
-    ghost use Rattle.std.specs.Option.{ForSome};
+    ghost use Rattle.vl_disk.specs.Faults.{never};
 
     type Held = MemHeld;
 
-    ghost faults = { λ reader. 0 };
-
-    ghost steady = { λ _. Unit {0} };
+    ghost faults = { λ _. never };
 
     fn read(&mut self, held: &MemHeld, place: u64, out: &mut [u8]) -> Result<(), Failed> {
         read_bytes(held.bytes(), place as usize, out);

@@ -11,13 +11,13 @@ pub struct SteadyWriter {
 }
 
 impl Writer for SteadyWriter {
+    ghost use Rattle.vl_disk.specs.Faults.{never};
+
     ghost named = { λ writer. writer.writer.name };
 
     ghost file = { λ writer. file_by writer.writer };
 
-    ghost faults = { λ writer. 0 };
-
-    ghost steady = { λ _. Unit {0} };
+    ghost faults = { λ _. never };
 
     fn append(&mut self, piece: &[u8]) -> Result<(), DiskFail> {
         self.writer.take_all(piece)?;

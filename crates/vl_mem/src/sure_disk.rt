@@ -133,6 +133,7 @@ impl Disk for SureDisk {
         self.disk.hold(name)
     }
 
+    #[tactic(auto, using(vl_disk::specs::laws::Counting::counts_never))]
     fn lend(&mut self, name: Name) -> Result<SteadyWriter, Failed> {
         let writer = self.disk.lend(name)?;
         Ok(SteadyWriter { writer })
@@ -142,6 +143,7 @@ impl Disk for SureDisk {
         self.disk.adopt(writer.writer);
     }
 
+    #[tactic(auto, using(vl_disk::specs::laws::Counting::counts_never))]
     fn reader(&self, _alloc: Global) -> Result<SteadyReader, NoMemory> {
         Ok(SteadyReader {})
     }

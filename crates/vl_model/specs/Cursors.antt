@@ -27,6 +27,8 @@ IsReached is_met (Some entry) = is_met entry ≡ true
 pub record HasRisen (before now : ℕ) : Type 0 where
   pub later : before ≤ now
   pub rose : min (before + 1) (2 ^ 64 - 1) ≤ now
+  -- the count of what never fails, which is 2 ^ 64, doesn't rise
+  pub counts : now < 2 ^ 64
 
 -- of a call that failed: where it says that reading did, that was counted, and nothing was otherwise
 abbrev pub IsCounted : Bool → ℕ → ℕ → Type 0

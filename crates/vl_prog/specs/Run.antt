@@ -7,7 +7,7 @@ use Rattle.vl_script.specs.Words.{command_of}
 use Rattle.vl_script.specs.declared.words.Command.{Command}
 use Rattle.vl_io.specs.declared.sink.Sink as sink
 use Rattle.vl_script_model.specs.Endings.{no_memory_line, status_of}
-use Rattle.vl_script_model.specs.Failing.{ReaderFailed}
+use Rattle.vl_script_model.specs.Failing.{FailsBeside}
 use Rattle.vl_script_model.specs.Reading.{Streams, ReadsInput}
 use Rattle.vl_script_model.specs.Runs.{Outside}
 use Rattle.vl_script_model.specs.Start.{AnswersInput, EndsAtTables}
@@ -65,9 +65,9 @@ abbrev pub FailedAtTables : {S D K R : Type 0} → Ghosts D → (faults : R → 
 FailedAtTables g faults k source source' disk disk' sink sink' =
     (source' ≡ source) × ((ending : Ending) × EndsAtTables g faults k disk disk' sink sink' ending)
 
--- the disk counted a fault meanwhile, or something of a kind that works beside it has counted one
+-- the disk counted a fault meanwhile; or some reader or writer of its kind has counted one, where what it gives may fail
 abbrev pub HasCountedFault : {D R : Type 0} → Ghosts D → (faults : R → ℕ) → (disk disk' : D) → Type 0
-HasCountedFault g faults disk disk' = Rose (g.faults disk) (g.faults disk') ⊎ ReaderFailed faults
+HasCountedFault g faults disk disk' = Rose (g.faults disk) (g.faults disk') ⊎ FailsBeside (g.gives_steady disk) faults
 
 -- A trial has the status of its ending, and printed what such a trial prints.
 abbrev pub StatusOfTrial : Trial → (held held' left : Option (List ℕ)) → (status : ℕ) → Type 0

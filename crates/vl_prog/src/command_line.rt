@@ -117,8 +117,9 @@ pub fn run<T: Shops, R: Threads + Wait + Sync, S: Source, K: Sink, D: Disk>(
 
     // Status 3 comes only by a fault of the disk, or where something failed of which the disk counts no fault: a line's read of an
     // open store's file, a merge's write of a file that was lent to it, or an opening's read of a table. Over a disk on which a run
-    // may begin, the disk, or some reader or writer of its kind, has counted a fault then. All other statuses but 7 come only without
-    // a fault of the disk. A trial never comes to 3: its stop is not reported. Nor do a benchmark and clients.
+    // may begin, the disk, or some reader or writer of its kind, has counted a fault then: the disk, where nothing that it gives ever
+    // fails. All other statuses but 7 come only without a fault of the disk. A trial never comes to 3: its stop is not reported. Nor do
+    // a benchmark and clients.
     ensures no_fault_in_trial { (stop : ℕ) (outcome : Outcome) → AskFor (map string_bytes words.now) (Command.Trial stop outcome)
         → result.status ≢ 3 }
     ensures disk_fault { result.status ≡ 3 → Rose (D.faults disk) (D.faults result.disk)

@@ -2,6 +2,7 @@ ghost use Rattle.std.specs.Prelude.{◌≡◌, ◌≤◌, ◌+◌, List, All, Co
 ghost use Rattle.vl_disk.specs.Calls.{ChangesNothing};
 ghost use Rattle.vl_disk.specs.Crash.{Image};
 ghost use Rattle.vl_disk.specs.Disk.{Lists};
+ghost use Rattle.vl_disk.specs.Faults.{HasCounted, NoneCounted, never};
 ghost use Rattle.vl_disk.specs.DiskState.{DiskState};
 ghost use Rattle.vl_disk.specs.Name.{IsNumbered};
 ghost use Rattle.vl_disk.specs.Started.{IsRead};
@@ -35,7 +36,7 @@ pub(crate) fn find<D: Disk>(
     disk: &mut D,
     reader: &mut D::Reader,
 ) -> Result<(Findings, HeldFiles<D::Held>), OpenError>
-    requires fresh { D.Reader.faults reader.old ≡ 0 }
+    requires fresh { NoneCounted (D.Reader.faults reader.old) }
     ensures answer { (state : DiskState) (read : Image) → D.told disk.old ≡ Some state → IsRead read state
         → FindsSo read result }
     ensures tables { (state : DiskState) (read : Image) → D.told disk.old ≡ Some state → IsRead read state
@@ -50,12 +51,14 @@ pub(crate) fn find<D: Disk>(
     ensures numbers { IfOk result (λ found. AreFileNumbers found.0.greatest) }
     ensures last { IfOk result (λ found. IsUpTo found.0.greatest.log found.0.last) }
     ensures at { IfErr result (IsFaultAt (D.told disk.old)) }
-    ensures fresh { IfOk result (λ _. D.Reader.faults reader.new ≡ 0) }
+    ensures fresh { IfOk result (λ _. NoneCounted (D.Reader.faults reader.new)) }
     // What the reader failed at is answered as a fault.
-    ensures read_fault { (D.Reader.faults reader.new ≡ 0 → ⊥) → IsFault result }
+    ensures read_fault { HasCounted (D.Reader.faults reader.new) → IsFault result }
+    // One that never fails never did.
+    ensures steady { D.Reader.faults reader.old ≡ never → D.Reader.faults reader.new ≡ never }
     // Where no table is named the reader isn't asked.
     ensures unread { (state : DiskState) (read : Image) → D.told disk.old ≡ Some state → IsRead read state → NamesNoTable read
-        → D.Reader.faults reader.new ≡ 0 }
+        → NoneCounted (D.Reader.faults reader.new) }
     ensures no_change { ChangesNothing D.Watched disk.old disk.new (FailsAtDisk (D.Reader.faults reader.new) result) }
 {
     let names = list_names(alloc, disk)?;

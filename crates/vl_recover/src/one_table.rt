@@ -5,6 +5,7 @@ ghost use Rattle.std.specs.Option.{ForSome};
 ghost use Rattle.vl_disk.specs.Calls.{ChangesNothing};
 ghost use Rattle.vl_disk.specs.Crash.{Image};
 ghost use Rattle.vl_disk.specs.Disk.{Lists};
+ghost use Rattle.vl_disk.specs.Faults.{HasCounted, NoneCounted, never};
 ghost use Rattle.vl_disk.specs.DiskState.{DiskState};
 ghost use Rattle.vl_disk.specs.Started.{IsRead};
 ghost use Rattle.vl_disk.specs.declared.name.Name.TheVariants as kinds;
@@ -27,15 +28,17 @@ pub fn open_table<D: Disk>(
     number: u32,
 ) -> Result<Table<D::Held>, OpenError>
     requires lists { ForSome (D.told disk.old) (Lists names.now) }
-    requires fresh { D.Reader.faults reader.old ≡ 0 }
+    requires fresh { NoneCounted (D.Reader.faults reader.old) }
     ensures answer { (state : DiskState) (read : Image) → D.told disk.old ≡ Some state → IsRead read state
         → IsTableFound read number result }
     ensures held { (state : DiskState) (read : Image) → D.told disk.old ≡ Some state → IsRead read state
         → IfOk result (λ table. D.Held.bytes table.held ≡ get read (kinds.Table number)) }
     ensures at { IfErr result (IsFaultOf (IsReadTable (D.told disk.old))) }
-    ensures fresh { IfOk result (λ _. D.Reader.faults reader.new ≡ 0) }
+    ensures fresh { IfOk result (λ _. NoneCounted (D.Reader.faults reader.new)) }
     // What the reader failed at is answered as a fault.
-    ensures read_fault { (D.Reader.faults reader.new ≡ 0 → ⊥) → IsFault result }
+    ensures read_fault { HasCounted (D.Reader.faults reader.new) → IsFault result }
+    // One that never fails never did.
+    ensures steady { D.Reader.faults reader.old ≡ never → D.Reader.faults reader.new ≡ never }
     ensures no_change { ChangesNothing D.Watched disk.old disk.new (FailsAtDisk (D.Reader.faults reader.new) result) }
 {
     let name = Name::Table(number);

@@ -3,7 +3,7 @@ ghost use Rattle.std.specs.Option.{ForSome};
 ghost use Rattle.vl_disk.specs.Calls.{ChangesNothing};
 ghost use Rattle.vl_disk.specs.Crash.{Image};
 ghost use Rattle.vl_disk.specs.DiskState.{DiskState};
-ghost use Rattle.vl_disk.specs.Faults.{HasCause, after_calls};
+ghost use Rattle.vl_disk.specs.Faults.{HasCause, HasCounted, NoneCounted, after_calls};
 ghost use Rattle.vl_disk.specs.Moments.{HoldsThroughout};
 ghost use Rattle.vl_disk.specs.Started.{IsRead};
 ghost use Rattle.vl_disk.specs.declared.name.Name.{Name};
@@ -95,12 +95,14 @@ pub fn recover<D: Disk>(
     ensures cause { HasCause (D.faults disk) (D.faults (disk_of result))
         (IsDiskFault (read_faults D.Reader.faults result) (recovery_of result)) }
     // What that reader failed at is answered as a fault: not as want of memory, and not as damage.
-    ensures read_fault { (read_faults D.Reader.faults result ≡ 0 → ⊥) → HasFailed (recovery_of result) }
+    ensures read_fault { HasCounted (read_faults D.Reader.faults result) → HasFailed (recovery_of result) }
+    // One that never fails counted none.
+    ensures steady { D.gives_steady disk → NoneCounted (read_faults D.Reader.faults result) }
     // Where it counted a fault nothing was changed either.
-    ensures unmoved { (read_faults D.Reader.faults result ≡ 0 → ⊥) → ChangesNothing D.Watched disk (disk_of result) ⊥ }
+    ensures unmoved { HasCounted (read_faults D.Reader.faults result) → ChangesNothing D.Watched disk (disk_of result) ⊥ }
     // Where no table is named it isn't asked.
     ensures unread { (state : DiskState) (read : Image) → D.told disk ≡ Some state → IsRead read state → NamesNoTable read
-        → read_faults D.Reader.faults result ≡ 0 }
+        → NoneCounted (read_faults D.Reader.faults result) }
     ensures room { IfOk result (λ parts. parts.room ≡ room) }
 
     // What it holds for readers is what reads gave, but for what was cut off from the last log. There are seven levels.

@@ -5,6 +5,7 @@ ghost use Rattle.std.specs.Option.{ForSome};
 ghost use Rattle.vl_disk.specs.Calls.{ChangesNothing};
 ghost use Rattle.vl_disk.specs.Crash.{Image};
 ghost use Rattle.vl_disk.specs.DiskState.{DiskState};
+ghost use Rattle.vl_disk.specs.Faults.{HasCounted, NoneCounted, never};
 ghost use Rattle.vl_disk.specs.Started.{IsRead};
 ghost use Rattle.vl_manifest.specs.States.{whole_edits};
 ghost use Rattle.vl_recover.specs.repairing.Deciding.{PreparesSo};
@@ -35,7 +36,7 @@ pub(crate) fn prepare<D: Disk>(
     disk: &mut D,
     reader: &mut D::Reader,
 ) -> Result<(Prepared, HeldFiles<D::Held>), OpenError>
-    requires fresh { D.Reader.faults reader.old ≡ 0 }
+    requires fresh { NoneCounted (D.Reader.faults reader.old) }
     ensures answer { (state : DiskState) (read : Image) → D.told disk.old ≡ Some state → IsRead read state
         → PreparesSo read result }
     ensures fits { IfOk result (λ ready. ForSome (D.told disk.new) (Fits (plan_view ready.0.plan))) }
@@ -56,12 +57,14 @@ pub(crate) fn prepare<D: Disk>(
     ensures runs { IfOk result (λ ready. All IsOneRun ready.0.frozen.items) }
     ensures numbered { IfOk result (λ ready. 1 ≤ ready.0.state.next_table) }
     ensures at { IfErr result (IsFaultAt (D.told disk.old)) }
-    ensures fresh { IfOk result (λ _. D.Reader.faults reader.new ≡ 0) }
+    ensures fresh { IfOk result (λ _. NoneCounted (D.Reader.faults reader.new)) }
     // What the reader failed at is answered as a fault.
-    ensures read_fault { (D.Reader.faults reader.new ≡ 0 → ⊥) → IsFault result }
+    ensures read_fault { HasCounted (D.Reader.faults reader.new) → IsFault result }
+    // One that never fails never did.
+    ensures steady { D.Reader.faults reader.old ≡ never → D.Reader.faults reader.new ≡ never }
     // Where no table is named the reader isn't asked.
     ensures unread { (state : DiskState) (read : Image) → D.told disk.old ≡ Some state → IsRead read state → NamesNoTable read
-        → D.Reader.faults reader.new ≡ 0 }
+        → NoneCounted (D.Reader.faults reader.new) }
     ensures no_change { ChangesNothing D.Watched disk.old disk.new (FailsAtDisk (D.Reader.faults reader.new) result) }
 {
     let (found, held) = find(alloc, disk, reader)?;

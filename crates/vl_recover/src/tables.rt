@@ -4,6 +4,7 @@ ghost use Rattle.std.specs.Option.{ForSome};
 ghost use Rattle.vl_disk.specs.Calls.{ChangesNothing};
 ghost use Rattle.vl_disk.specs.Crash.{Image};
 ghost use Rattle.vl_disk.specs.Disk.{Lists};
+ghost use Rattle.vl_disk.specs.Faults.{HasCounted, NoneCounted, never};
 ghost use Rattle.vl_disk.specs.DiskState.{DiskState};
 ghost use Rattle.vl_disk.specs.Started.{IsRead};
 ghost use Rattle.vl_recover.specs.opening.Finding.{FailsAtDisk, IsFault, IsFaultOf, IsReadTable};
@@ -29,7 +30,7 @@ pub fn open_tables<D: Disk>(
     levels: &Levels,
 ) -> Result<Vec<Vec<Table<D::Held>>>, OpenError>
     requires lists { ForSome (D.told disk.old) (Lists names.now) }
-    requires fresh { D.Reader.faults reader.old ≡ 0 }
+    requires fresh { NoneCounted (D.Reader.faults reader.old) }
     requires seven { length levels.now ≡ 7 }
     ensures answer { (state : DiskState) (read : Image) → D.told disk.old ≡ Some state → IsRead read state
         → AnswersAs all_found (NamedLevels false read levels.now) result }
@@ -37,10 +38,11 @@ pub fn open_tables<D: Disk>(
         → IfOk result (λ opened. AreReadTables D.Held.bytes read (tables_of opened.items)) }
     ensures seven { IfOk result (λ opened. length opened.items ≡ 7) }
     ensures at { IfErr result (IsFaultOf (IsReadTable (D.told disk.old))) }
-    ensures fresh { IfOk result (λ _. D.Reader.faults reader.new ≡ 0) }
-    ensures read_fault { (D.Reader.faults reader.new ≡ 0 → ⊥) → IsFault result }
+    ensures fresh { IfOk result (λ _. NoneCounted (D.Reader.faults reader.new)) }
+    ensures read_fault { HasCounted (D.Reader.faults reader.new) → IsFault result }
+    ensures steady { D.Reader.faults reader.old ≡ never → D.Reader.faults reader.new ≡ never }
     // Where no table is named the reader isn't asked.
-    ensures unread { ((n : ℕ) → IsNamed levels.now n → ⊥) → D.Reader.faults reader.new ≡ 0 }
+    ensures unread { ((n : ℕ) → IsNamed levels.now n → ⊥) → NoneCounted (D.Reader.faults reader.new) }
     ensures no_change { ChangesNothing D.Watched disk.old disk.new (FailsAtDisk (D.Reader.faults reader.new) result) }
 {
     let mut opened = Vec::new(alloc);
@@ -66,15 +68,16 @@ fn open_level<D: Disk>(
     tables: &[u32],
 ) -> Result<Vec<Table<D::Held>>, OpenError>
     requires lists { ForSome (D.told disk.old) (Lists names.now) }
-    requires fresh { D.Reader.faults reader.old ≡ 0 }
+    requires fresh { NoneCounted (D.Reader.faults reader.old) }
     ensures answer { (state : DiskState) (read : Image) → D.told disk.old ≡ Some state → IsRead read state
         → AnswersAs found_level (NamedLevel is_deeper read None tables.now) result }
     ensures held { (state : DiskState) (read : Image) → D.told disk.old ≡ Some state → IsRead read state
         → IfOk result (λ opened. AreReadTables D.Held.bytes read opened.items) }
     ensures at { IfErr result (IsFaultOf (IsReadTable (D.told disk.old))) }
-    ensures fresh { IfOk result (λ _. D.Reader.faults reader.new ≡ 0) }
-    ensures read_fault { (D.Reader.faults reader.new ≡ 0 → ⊥) → IsFault result }
-    ensures unread { tables.now ≡ [] → D.Reader.faults reader.new ≡ 0 }
+    ensures fresh { IfOk result (λ _. NoneCounted (D.Reader.faults reader.new)) }
+    ensures read_fault { HasCounted (D.Reader.faults reader.new) → IsFault result }
+    ensures steady { D.Reader.faults reader.old ≡ never → D.Reader.faults reader.new ≡ never }
+    ensures unread { tables.now ≡ [] → NoneCounted (D.Reader.faults reader.new) }
     ensures no_change { ChangesNothing D.Watched disk.old disk.new (FailsAtDisk (D.Reader.faults reader.new) result) }
 {
     let mut opened: Vec<Table<D::Held>> = Vec::new(alloc);

@@ -4,3 +4,4 @@ pub mod Lines
 pub mod Looking
 pub mod Merging
 pub mod Naming
+pub mod Passing

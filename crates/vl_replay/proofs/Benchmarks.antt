@@ -4,8 +4,9 @@ use Rattle.std.proofs.Common.{List, [], ◌∷◌, ◌++◌, length, map, None, 
 use Rattle.std.specs.Prelude.{IfErr, IsErrAnd, codes, drop, slice_get, if◌then◌else◌, ◌%◌}
 use Rattle.std.specs.List.{AllByRecursion}
 use Rattle.std.specs.FinMap.{empty, get-empty}
+use Rattle.vl_disk.specs.laws.Counting.{never_counted}
 use Rattle.vl_disk.specs.DiskState.{empty_disk}
-use Rattle.vl_disk.specs.Faults.{HasCause, Rose, after_calls}
+use Rattle.vl_disk.specs.Faults.{HasCause, NoneCounted, Rose, after_calls, never}
 use Rattle.vl_disk.specs.Name.{name_cmp}
 use Rattle.vl_disk.specs.Started.{started_empty}
 use Rattle.vl_engine.specs.Opening.{AnswersOpening, IsDiskFault, reader_faults, why_of}
@@ -167,13 +168,13 @@ module _ (disk : SureDisk) (is : state_on disk ≡ empty_disk) (none : calls_on 
   never_rose now rose =
       let before = never_fails disk in
       let after = never_fails now in
-      omega (arith, rose, before, after)
+      omega (arith, rose.more, before, after)
 
   -- where it isn't opened, memory ran out
   pub only_memory : {Held Reader Writer : Type 0} {watched : _} {held : _} {cloned : _} {read : _} {write : _}
       {R : Type 0} (faults : R → ℕ)
       (r : Result (Replayer SureDisk Held Reader Writer watched held cloned read write) (OpenFail SureDisk R))
-      → reader_faults faults r ≡ 0 → HasCause (faults_on disk) (faults_on (disk_behind r)) (IsDiskFault (reader_faults faults r) (why_of r))
+      → NoneCounted (reader_faults faults r) → HasCause (faults_on disk) (faults_on (disk_behind r)) (IsDiskFault (reader_faults faults r) (why_of r))
       → AnswersOpening empty (why_of r) → IfErr r (λ fail. fail.why ≡ why.NoMemory)
   only_memory faults (Ok replayer) unread cause answers = tt
   only_memory faults (Err fail) unread cause answers = of fail.why cause answers
@@ -193,16 +194,16 @@ module _ (disk : SureDisk) (is : state_on disk ≡ empty_disk) (none : calls_on 
 -- ---- lines over a disk that never fails
 
 -- no reader of the disk counts a fault, nor does what writes its files beside it
-none_failed : {R W : Type 0} → ReaderFailed (beside (λ (reader : R). 0) (λ (writer : W). 0)) → ⊥
-none_failed failed = of failed.reader failed.some
+none_failed : {R W : Type 0} → ReaderFailed (beside (λ (reader : R). never) (λ (writer : W). never)) → ⊥
+none_failed failed = (of failed.reader).none failed.some
   where
-    of : {R W : Type 0} (x : Beside R W) → 1 ≤ beside (λ (reader : R). 0) (λ (writer : W). 0) x → ⊥
-    of (ByReader reader) some = omega (arith, some)
-    of (ByWriter writer) some = omega (arith, some)
+    of : {R W : Type 0} (x : Beside R W) → NoneCounted (beside (λ (reader : R). never) (λ (writer : W). never) x)
+    of (ByReader reader) = never_counted
+    of (ByWriter writer) = never_counted
 
 -- so a line is given no answer only for want of memory
 pub out_of_memory : {T R W : Type 0} (old new : SureDisk) (result : Result T Halt) → (HaltsByDamage result → ⊥)
-    → (HaltsByReader result → ReaderFailed (beside (λ (reader : R). 0) (λ (writer : W). 0)))
+    → (HaltsByReader result → ReaderFailed (beside (λ (reader : R). never) (λ (writer : W). never)))
     → HasCause (faults_on old) (faults_on new) (HaltsByDisk result) → IfErr result (λ halt. halt ≡ halts.NoMemory)
 out_of_memory old new (Ok x) whole read cause = tt
 out_of_memory old new (Err halts.NoMemory) whole read cause = refl
@@ -210,7 +211,7 @@ out_of_memory old new (Err (halts.Disk name)) whole read cause =
     let rose = cause.rose tt in
     let before = never_fails old in
     let after = never_fails new in
-    absurd (omega (arith, rose, before, after))
+    absurd (omega (arith, rose.more, before, after))
 out_of_memory old new (Err (halts.Read name)) whole read cause = absurd (none_failed (read tt))
 out_of_memory old new (Err (halts.Halted name)) whole read cause = absurd (none_failed (read tt))
 out_of_memory old new (Err (halts.Damaged name place)) whole read cause = absurd (whole tt)

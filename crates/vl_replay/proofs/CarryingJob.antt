@@ -6,19 +6,22 @@ use Rattle.std.specs.Option.{ForSome}
 use Rattle.std.proofs.Common.{⊎_elim, refl, ap, sym, ◌∙◌, subst, arith, append-nil}
 use Rattle.std.proofs.lemmas.List.{map-append}
 use Rattle.std.proofs.lemmas.List.Elements.{All-from_recursion}
+use Rattle.vl_model.specs.Cursors.{HasRisen}
+use Rattle.vl_disk.specs.laws.Counting.{rose_at_all}
 use Rattle.vl_compact.specs.Keys.{behind}
 use Rattle.vl_compact.specs.Laid.{AreTablesOf}
 use Rattle.vl_compact.specs.Lending.{FailsWriting, HasFailed, IsSteady, Wanted}
 use Rattle.vl_compact.specs.Progress.{FailsWith, IsNew, IsTableFile, KeepsAll, Leaves, Takes}
-use Rattle.vl_compact.specs.Reading.{Counts, FailsReading, IsMemory, IsOfFiles, IsOfSources, MayWhere, NoneRose, counts}
+use Rattle.vl_compact.specs.Reading.{Counts, FailsReading, IsMemory, IsOfFiles, IsOfSources, IsSure, MayWhere, NoneRose, counts}
 use Rattle.vl_compact.specs.Stops.{MayStopIn}
 use Rattle.vl_compact.specs.declared.files.Lent.{Lent}
 use Rattle.vl_compact.specs.declared.files.Synced.{Synced}
 use Rattle.vl_compact.specs.declared.job.Job.{Job as TheJob}
+use Rattle.vl_compact.specs.laws.SureReaders.{filled_whole, read_whole}
 use Rattle.vl_compact.specs.declared.job_reader.JobReader.{JobReader}
 use Rattle.vl_disk.specs.Calls.{ChangesNothing}
 use Rattle.vl_disk.specs.DiskState.{new_file}
-use Rattle.vl_disk.specs.Faults.{Rose}
+use Rattle.vl_disk.specs.Faults.{HasCounted, Rose, never}
 use Rattle.vl_disk.specs.declared.name.Name.{Name}
 use Rattle.vl_disk.specs.declared.watched.Watched.{Ghosts}
 use Rattle.vl_disk.specs.declared.writer.Writer.{Ghosts as Writers}
@@ -191,6 +194,11 @@ not_by_disk T NoMemory by = by
 not_by_disk T (Disk name) by = by
 not_by_disk T (Damaged name place) by = by
 
+-- what has risen was counted
+pub risen_counted : (before now : ℕ) → HasRisen before now → HasCounted now
+risen_counted before now risen =
+    rose_at_all before now (record { later = risen.later; more = risen.rose; counts = risen.counts })
+
 module _ {R W : Type 0} (reads : R → ℕ) (writers : Writers W) (old new : JobReader R (BlockReader R)) where
   abbrev its : Counts
   its = counts (λ (l : BlockReader R). reads l.reader) reads old new
@@ -201,12 +209,14 @@ module _ {R W : Type 0} (reads : R → ℕ) (writers : Writers W) (old new : Job
   read_failed may their name fails = ⊎_elim
       (λ (out : IsMemory its (Disk name)). absurd (disk_memory out.is))
       (λ (other : IsOfSources is_disk_fault may its (Disk name) ⊎ IsOfFiles is_disk_fault their its (Disk name)). ⊎_elim
-      (λ (of : IsOfSources is_disk_fault may its (Disk name)). let rose : min (reads old.looks.reader + 1)
-      (2 ^ 64 - 1) ≤ reads new.looks.reader = of.counted.rose in
-      record { reader = ByReader new.looks.reader; some = omega (arith, rose) })
-      (λ (of : IsOfFiles is_disk_fault their its (Disk name)). let rose : min (reads old.files + 1)
-      (2 ^ 64 - 1) ≤ reads new.files = of.counted.rose in
-      record { reader = ByReader new.files; some = omega (arith, rose) })
+      (λ (of : IsOfSources is_disk_fault may its (Disk name)). record {
+        reader = ByReader new.looks.reader;
+        some = risen_counted (reads old.looks.reader) (reads new.looks.reader) of.counted;
+      })
+      (λ (of : IsOfFiles is_disk_fault their its (Disk name)). record {
+        reader = ByReader new.files;
+        some = risen_counted (reads old.files) (reads new.files) of.counted;
+      })
       other)
       fails
     where
@@ -233,12 +243,31 @@ module _ {R W : Type 0} (reads : R → ℕ) (writers : Writers W) (old new : Job
       (λ (out : Wanted writers file leaving (Disk name)). absurd (disk_memory out.is))
       (λ (failed : HasFailed writers file leaving (Disk name)). let rose : Rose (writers.faults file.writer)
       (writers.faults leaving.writer) = failed.rose in
-      record { reader = ByWriter leaving.writer; some = omega (arith, rose) })
+      record { reader = ByWriter leaving.writer; some = rose_at_all (writers.faults file.writer) (writers.faults leaving.writer) rose })
       wrote.0)
       fails
     where
       disk_memory : Disk name ≡ NoMemory → ⊥
       disk_memory e = cc
+
+  module _ (sure : IsSure (λ (l : BlockReader R). reads l.reader) reads old) where
+    -- and none fails that never does
+    pub reading_sure : (T : Type 0) (may their : ReadFault → Type 0) (fault : ReadFault)
+        → FailsReading is_disk_fault may is_disk_fault their its fault → HaltsByReader {T = T} (Err (halt_by fault)) → ⊥
+    reading_sure T may their NoMemory fails by = by
+    reading_sure T may their (Disk name) fails by =
+        read_whole (λ (l : BlockReader R). reads l.reader) reads may their old new sure (Disk name) name fails refl
+    reading_sure T may their (Damaged name place) fails by = by
+
+    pub filling_sure : (T : Type 0) {V H : Type 0} (may their : ReadFault → Type 0) {g : _} (file : Lent W g)
+        (first last : TheJob V H W g) (fault : ReadFault) → writers.faults file.writer ≡ never
+        → FailsWith writers (FailsReading is_disk_fault may is_disk_fault their) its file first last fault
+        → HaltsByReader {T = T} (Err (halt_by fault)) → ⊥
+    filling_sure T may their file first last NoMemory writes fails by = by
+    filling_sure T may their file first last (Disk name) writes fails by =
+        filled_whole (λ (l : BlockReader R). reads l.reader) reads may their old new sure writers file first last (Disk name) name
+        writes fails refl
+    filling_sure T may their file first last (Damaged name place) writes fails by = by
 
 -- ---- its files
 

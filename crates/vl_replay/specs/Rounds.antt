@@ -2,6 +2,7 @@
 use Rattle.std.specs.Prelude.{◌≡◌, ◌<◌, ◌≤◌, ◌++◌, ℕ, List, [], ◌∷◌, length, Option, Some, Result, Ok, Err, IsSome}
 use Rattle.std.specs.List.{AllByRecursion}
 use Rattle.std.specs.Option.{ForSome}
+use Rattle.vl_compact.specs.Reading.{IsSure}
 use Rattle.vl_compact.specs.declared.files.Synced.{Synced}
 use Rattle.vl_compact.specs.declared.job.Job.{Job as TheJob}
 use Rattle.vl_compact.specs.declared.job_reader.JobReader.{JobReader}
@@ -50,6 +51,13 @@ round_by (fails.Exhausted counter) = Ok (rounds.Exhausted counter)
 round_by fails.NoMemory = Err halts.NoMemory
 round_by (fails.Disk name) = Err (halts.Disk name)
 round_by (fails.Halted name) = Err (halts.Halted name)
+
+-- ---- what never fails
+
+-- neither what the disk gives, nor what reads for the merge
+pub record MergesSurely {D R : Type 0} (g : Ghosts D) (faults : R → ℕ) (disk : D) (reader : JobReader R (BlockReader R)) : Type 0 where
+  pub gives : g.gives_steady disk
+  pub reads : IsSure (λ (l : BlockReader R). faults l.reader) faults reader
 
 -- ---- its files
 

@@ -8,6 +8,7 @@ use Rattle.vl_engine_model.specs.Store.Things as things
 use Rattle.vl_version.specs.declared.base.Base.{Base}
 use Rattle.vl_replay_laws.specs.Passing.{PassesIn}
 use Rattle.vl_replay_laws.specs.Replaying.{MergesIn, StandsIn}
+use Rattle.vl_replay_laws.specs.Standing.{NoneFails}
 use Rattle.vl_recover.specs.crash.Starts.{MayOpen}
 use Rattle.vl_script_model.specs.Durable.{HoldsState, Tells}
 use Rattle.vl_script_model.specs.Sequential.{State}
@@ -73,6 +74,24 @@ pub record StandsWith {D Held Reader Writer : Type 0} {watched : _} {held : _} {
 abbrev pub StandsFor : {D Held Reader Writer : Type 0} {watched : _} {held : _} {cloned : _} {read : _} {write : _}
     → Ghosts D → Writers Writer → (Held → Option (List ℕ)) → Replayer D Held Reader Writer watched held cloned read write → State → Type 0
 StandsFor g writers bytes replayer s = StandsWith g writers bytes replayer.served replayer.planned replayer.passing s
+
+-- Nothing through which its names read ever fails,
+abbrev pub ReadSurely : {D Held Reader Writer : Type 0} {watched : _} {held : _} {cloned : _} {read : _} {write : _}
+    → (Reader → ℕ) → Served D Held Reader Writer watched held cloned read write → Type 0
+ReadSurely faults served = NoneFails served.opens.items (λ r. faults r.inner)
+
+-- and nothing that its disk gives ever does.
+pub record IsUnfailing {D Held Reader Writer : Type 0} {watched : _} {held : _} {cloned : _} {read : _} {write : _}
+    (g : Ghosts D) (faults : Reader → ℕ) (served : Served D Held Reader Writer watched held cloned read write) : Type 0 where
+  pub gives : g.gives_steady served.engine.disk
+  pub reads : ReadSurely faults served
+
+-- A replayer stands for this state then. Where nothing was to fail beside its disk, nothing is still.
+pub record GoesOnFor {D Held Reader Writer : Type 0} {watched : _} {held : _} {cloned : _} {read : _} {write : _}
+    (g : Ghosts D) (writers : Writers Writer) (bytes : Held → Option (List ℕ)) (faults : Reader → ℕ)
+    (old new : Replayer D Held Reader Writer watched held cloned read write) (s : State) : Type 0 where
+  pub stands : StandsFor g writers bytes new s
+  pub unfailing : IsUnfailing g faults old.served → IsUnfailing g faults new.served
 
 -- it takes lines: none was halted
 abbrev pub TakesLines : {D Held Reader Writer : Type 0} {watched : _} {held : _} {cloned : _} {read : _} {write : _}

@@ -5,7 +5,7 @@ ghost use Rattle.vl_disk.specs.Faults.{Rose, HasCause};
 ghost use Rattle.vl_script_model.specs.Sequential.{State};
 ghost use Rattle.vl_replay.specs.AsCalled.{AnswersAsCalled};
 ghost use Rattle.vl_script_model.specs.Called.{AnswersAsLine, EndsText, HaltsAsLine, IsApart};
-ghost use Rattle.vl_replay.specs.Served.{StandsFor, StaysOpen, TakesLines, disk_of};
+ghost use Rattle.vl_replay.specs.Served.{GoesOnFor, IsUnfailing, StandsFor, StaysOpen, TakesLines, disk_of};
 ghost use Rattle.vl_script_model.specs.Exchanges.{exchange_at, state_behind};
 ghost use Rattle.vl_script_model.specs.Endings.{TheDisk, TheSink, TheSource, CountsFaultsOf, CutsAnswer, EndsAs, culprit_of, line_number};
 ghost use Rattle.vl_script_model.specs.Runs.{Script};
@@ -13,7 +13,7 @@ ghost use Rattle.vl_script_model.specs.Durable.{HoldsState, CarriesOut};
 ghost use Rattle.vl_script_model.specs.Stored.{IsStopped, IsStored};
 ghost use Rattle.vl_engine_laws.specs.Shown.{Shown};
 ghost use Rattle.vl_script_model.specs.Steps.{IsAnswered, IsNext, EndsAtBadLine, PrintsStep, DiskSteps};
-ghost use Rattle.vl_script_model.specs.Failing.{IsTableRead, ReaderFailed, beside};
+ghost use Rattle.vl_script_model.specs.Failing.{FailsBeside, IsTableRead, beside};
 ghost use Rattle.vl_script_model.specs.Halts.{HaltsByDamage, HaltsByDisk, HaltsByRead, HaltsByReader};
 ghost use Rattle.vl_script_model.specs.Reading.{AnswersText, EndsBadly, IsLine, ReadsText};
 ghost use Rattle.vl_script_model.specs.declared.fails.Refusal.{Refusal};
@@ -47,7 +47,11 @@ fn execute_line<D: Disk>(
         → HaltsByRead result → IsTableRead (exchange_at s text.now) }
     ensures undamaged { (s : State) → StandsFor D.Watched D.Writer.Writer D.Held.bytes replayer.old s → HaltsByDamage result → ⊥ }
     ensures fault { (s : State) → StandsFor D.Watched D.Writer.Writer D.Held.bytes replayer.old s
-        → HaltsByReader result → ReaderFailed (beside D.Reader.faults D.Writer.faults) }
+        → HaltsByReader result → FailsBeside (IsUnfailing D.Watched D.Reader.faults replayer.old.served)
+        (beside D.Reader.faults D.Writer.faults) }
+    ensures sure { (s : State) → StandsFor D.Watched D.Writer.Writer D.Held.bytes replayer.old s
+        → IsUnfailing D.Watched D.Reader.faults replayer.old.served
+        → OnOk result (IsUnfailing D.Watched D.Reader.faults replayer.new.served) }
     ensures met { HaltsByRead result → IsLine text.now }
     ensures reads { IfOk result (λ out. ReadsText text.now (option_map (λ text. text.items) out)) }
     ensures goes_on { OnOk result (TakesLines replayer.new) }
@@ -111,11 +115,12 @@ pub fn answer<K: Sink, D: Disk>(
     ensures not_the_source { option_map culprit_of result ≢ Some TheSource }
     ensures not_the_files { (refusal : Refusal) → result ≢ Some (Ending.Refused refusal) }
     ensures not_the_words { result ≢ Some Ending.BadWords }
-    // A read fails only where its reader counts it. Wherever the run goes on, the store stands for a state.
+    // A read fails only where its reader counts it, and not where nothing is to fail beside the disk. Wherever the run goes on, the
+    // store stands for a state, and nothing is to fail that wasn't.
     ensures reader_fault { (s : State) → StandsFor D.Watched D.Writer.Writer D.Held.bytes replayer.old s → result ≡ Some Ending.ReaderFault
-        → ReaderFailed (beside D.Reader.faults D.Writer.faults) }
+        → FailsBeside (IsUnfailing D.Watched D.Reader.faults replayer.old.served) (beside D.Reader.faults D.Writer.faults) }
     ensures stands { (s : State) → StandsFor D.Watched D.Writer.Writer D.Held.bytes replayer.old s → result ≡ None
-        → (t : State) × StandsFor D.Watched D.Writer.Writer D.Held.bytes replayer.new t }
+        → (t : State) × GoesOnFor D.Watched D.Writer.Writer D.Held.bytes D.Reader.faults replayer.old replayer.new t }
     ensures again { (s : State) → StandsFor D.Watched D.Writer.Writer D.Held.bytes replayer.old s
         → HoldsState D.Watched IsStored s (disk_of replayer.old)
         → StaysOpen D.Watched (StandsFor D.Watched D.Writer.Writer D.Held.bytes replayer.new) (disk_of replayer.new) result }

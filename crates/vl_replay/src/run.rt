@@ -6,14 +6,14 @@ ghost use Rattle.vl_disk.specs.Started.{IsRead};
 ghost use Rattle.vl_recover.specs.crash.Starts.{MayOpen};
 ghost use Rattle.vl_script_model.specs.Sequential.{State};
 ghost use Rattle.vl_replay.specs.AsCalled.{AnswersAsCalled, RunsFromOpening, files_by, shares_by};
-ghost use Rattle.vl_replay.specs.Served.{StandsFor, StaysOpen, TakesLines, disk_of};
+ghost use Rattle.vl_replay.specs.Served.{GoesOnFor, IsUnfailing, StandsFor, StaysOpen, TakesLines, disk_of};
 ghost use Rattle.vl_script_model.specs.Called.{CallsOn, EndsText, HasCalled, RunsAsCalled};
 ghost use Rattle.vl_script_model.specs.Exchanges.{exchange_at, state_behind};
 ghost use Rattle.vl_script_model.specs.Endings.{TheDisk, TheSink, TheSource, CountsFaultsOf, EndsAs, culprit_of, line_number};
 ghost use Rattle.std.specs.Option.{option_map};
 ghost use Rattle.vl_disk.specs.Faults.{Rose};
 ghost use Rattle.vl_script_model.specs.Runs.{Script, script_of, outside, EndsRun};
-ghost use Rattle.vl_script_model.specs.Failing.{ReaderFailed, beside};
+ghost use Rattle.vl_script_model.specs.Failing.{FailsBeside, beside};
 ghost use Rattle.vl_script_model.specs.Durable.{HoldsState, DiskEndsFrom, Tells};
 ghost use Rattle.vl_script_model.specs.Stored.{IsStopped, IsStored};
 ghost use Rattle.vl_engine_laws.specs.Shown.{Shown};
@@ -67,9 +67,10 @@ impl<D: Disk> Progress<D> {
         ensures not_the_files { (refusal : Refusal) → result ≢ Some (Ending.Refused refusal) }
         ensures not_the_words { result ≢ Some Ending.BadWords }
         ensures reader_fault { (s : State) → StandsFor D.Watched D.Writer.Writer D.Held.bytes self.old.replayer s
-            → result ≡ Some Ending.ReaderFault → ReaderFailed (beside D.Reader.faults D.Writer.faults) }
+            → result ≡ Some Ending.ReaderFault
+            → FailsBeside (IsUnfailing D.Watched D.Reader.faults self.old.replayer.served) (beside D.Reader.faults D.Writer.faults) }
         ensures stands { (s : State) → StandsFor D.Watched D.Writer.Writer D.Held.bytes self.old.replayer s → result ≡ None
-            → (t : State) × StandsFor D.Watched D.Writer.Writer D.Held.bytes self.new.replayer t }
+            → (t : State) × GoesOnFor D.Watched D.Writer.Writer D.Held.bytes D.Reader.faults self.old.replayer self.new.replayer t }
         // However the run goes on, the disk holds such a state; and however it ends, a store may be opened there again.
         ensures again { (s : State) → StandsFor D.Watched D.Writer.Writer D.Held.bytes self.old.replayer s
             → HoldsState D.Watched IsStored s (disk_of self.old.replayer)
@@ -120,9 +121,10 @@ impl<D: Disk> Progress<D> {
         ensures not_the_files { (refusal : Refusal) → result ≢ Some (Ending.Refused refusal) }
         ensures not_the_words { result ≢ Some Ending.BadWords }
         ensures reader_fault { (s : State) → StandsFor D.Watched D.Writer.Writer D.Held.bytes self.old.replayer s
-            → result ≡ Some Ending.ReaderFault → ReaderFailed (beside D.Reader.faults D.Writer.faults) }
+            → result ≡ Some Ending.ReaderFault
+            → FailsBeside (IsUnfailing D.Watched D.Reader.faults self.old.replayer.served) (beside D.Reader.faults D.Writer.faults) }
         ensures stands { (s : State) → StandsFor D.Watched D.Writer.Writer D.Held.bytes self.old.replayer s → result ≡ None
-            → (t : State) × StandsFor D.Watched D.Writer.Writer D.Held.bytes self.new.replayer t }
+            → (t : State) × GoesOnFor D.Watched D.Writer.Writer D.Held.bytes D.Reader.faults self.old.replayer self.new.replayer t }
         ensures again { (s : State) → StandsFor D.Watched D.Writer.Writer D.Held.bytes self.old.replayer s
             → HoldsState D.Watched IsStored s (disk_of self.old.replayer)
             → StaysOpen D.Watched (StandsFor D.Watched D.Writer.Writer D.Held.bytes self.new.replayer) (disk_of self.new.replayer) result }
@@ -161,12 +163,12 @@ pub fn replay<S: Source, K: Sink, D: Disk>(
     ensures source_faults { CountsFaultsOf TheSource (Some result.ending) (S.faults source.old) (S.faults source.new) }
     ensures sink_faults { CountsFaultsOf TheSink (Some result.ending) (K.faults sink.old) (K.faults sink.new) }
     // A fault of the disk is counted by it, or by the reader through which its opening read tables; and that of a line's read by
-    // its reader.
+    // its reader, which comes only where something may fail beside the disk.
     ensures disk_faults { CountsFaultsOf TheDisk (Some result.ending) (D.faults disk) (D.faults result.disk)
         ⊎ (EndsAtTables D.Watched D.Reader.faults K.Sink disk result.disk sink.old sink.new result.ending
         × (source.new ≡ source.old)) }
     ensures reader_fault { (s : State) → StartsIn D.Watched disk s → result.ending ≡ Ending.ReaderFault
-        → ReaderFailed (beside D.Reader.faults D.Writer.faults) }
+        → FailsBeside (D.gives_steady disk) (beside D.Reader.faults D.Writer.faults) }
     ensures not_the_words { result.ending ≢ Ending.BadWords }
     // It says how it ended.
     ensures reported { result.ending ≢ Ending.Stopped }
@@ -223,7 +225,7 @@ pub(crate) fn answer_lines<S: Source, K: Sink, D: Disk>(
     ensures not_the_files { (refusal : Refusal) → result.ending ≢ Ending.Refused refusal }
     ensures not_the_words { result.ending ≢ Ending.BadWords }
     ensures reader_fault { (s : State) → StandsFor D.Watched D.Writer.Writer D.Held.bytes replayer s → result.ending ≡ Ending.ReaderFault
-        → ReaderFailed (beside D.Reader.faults D.Writer.faults) }
+        → FailsBeside (IsUnfailing D.Watched D.Reader.faults replayer.served) (beside D.Reader.faults D.Writer.faults) }
     ensures input { (input : List ℕ) → S.left source.old ≡ Some input
         → ReadsInput input (streams S.Source K.Sink source.old sink.old) (streams S.Source K.Sink source.new sink.new)
         result.ending }

@@ -9,11 +9,11 @@ ghost use Rattle.vl_space.specs.Removing.{Removes};
 ghost use Rattle.vl_engine.specs.UnderWay.{IsUnderWay as MayGiveUp};
 ghost use Rattle.vl_engine_model.specs.declared.job.Job as laid;
 ghost use Rattle.vl_replay_laws.specs.Drawn.{IsPlanned, Merged, drawn_all};
-ghost use Rattle.vl_script_model.specs.Failing.{ReaderFailed, beside};
+ghost use Rattle.vl_script_model.specs.Failing.{FailsBeside, beside};
 ghost use Rattle.vl_script_model.specs.Halts.{HaltsByDisk, HaltsByReader};
 ghost use Rattle.vl_replay.specs.AsCalled.{HaltsMerging};
 ghost use Rattle.vl_replay.specs.Handed.{MayHandIn};
-ghost use Rattle.vl_replay.specs.Rounds.{HasLent, IsUnderWay, RoundLeaves, Rounds, StillLent, halt_by, round_by};
+ghost use Rattle.vl_replay.specs.Rounds.{HasLent, IsUnderWay, MergesSurely, RoundLeaves, Rounds, StillLent, halt_by, round_by};
 ghost use Rattle.vl_script_model.specs.Sequential.{State};
 ghost use Rattle.vl_replay.specs.declared.tables.Round.TheVariants.{Made};
 
@@ -59,8 +59,9 @@ pub fn make_tables<D: Disk>(
 
     // A fault of the disk is counted by it, and one beside it by what read or wrote, unless the engine was halted already.
     ensures cause { HasCause (D.faults engine.old.disk) (D.faults engine.new.disk) (HaltsByDisk result) }
-    ensures fault { engine.old.core.front.halted ≡ None
-        → HaltsByReader result → ReaderFailed (beside D.Reader.faults D.Writer.faults) }
+    ensures fault { engine.old.core.front.halted ≡ None → HaltsByReader result
+        → FailsBeside (D.gives_steady engine.old.disk) (beside D.Reader.faults D.Writer.faults) }
+    ensures steady { D.gives_steady engine.old.disk → D.gives_steady engine.new.disk }
 
     // Whatever the disk holds, damage is that of a block which reading for the merge met, and a fault beside the disk is counted.
     ensures as_called { HaltsMerging D.Held.bytes (λ r. D.Reader.faults r) D.Writer.Writer (FitsReaders D.Held.bytes job.old) job.old result }
@@ -103,8 +104,11 @@ fn make_table<D: Disk>(
         → Removes engine.old.core engine.old.removing s.store.layout
         → RoundLeaves (Removes engine.new.core engine.new.removing) s.store.layout result }
     ensures cause { HasCause (D.faults engine.old.disk) (D.faults engine.new.disk) (HaltsByDisk result) }
-    ensures fault { engine.old.core.front.halted ≡ None
-        → HaltsByReader result → ReaderFailed (beside D.Reader.faults D.Writer.faults) }
+    ensures fault { engine.old.core.front.halted ≡ None → HaltsByReader result
+        → FailsBeside (MergesSurely D.Watched D.Reader.faults engine.old.disk reader.old) (beside D.Reader.faults D.Writer.faults) }
+    ensures steady { D.gives_steady engine.old.disk → D.gives_steady engine.new.disk }
+    ensures sure { MergesSurely D.Watched D.Reader.faults engine.old.disk reader.old
+        → result ≡ Ok Made → MergesSurely D.Watched D.Reader.faults engine.new.disk reader.new }
     // Whatever the disk holds, damage is that of a block which reading for the merge met. What is merged stays the same.
     ensures as_called { HaltsMerging D.Held.bytes (λ r. D.Reader.faults r) D.Writer.Writer
         (Fits D.Held.bytes job.old.base.version reader.old.looks) job.old result }

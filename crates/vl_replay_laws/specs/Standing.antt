@@ -5,6 +5,7 @@ use Rattle.std.specs.List.{filter}
 use Rattle.std.specs.Option.{option_map}
 use Rattle.std.specs.Bool.{⊤}
 use Rattle.std.specs.Ordering.{eq_by_cmp}
+use Rattle.vl_disk.specs.Faults.{never}
 use Rattle.vl_version.specs.LiesOver.{IsInMemory}
 use Rattle.vl_engine_laws.specs.Represents.{IsLive}
 use Rattle.vl_reads.specs.declared.txn.Txn.{Txn}
@@ -52,6 +53,15 @@ use Rattle.vl_replay_laws.specs.declared.open.Thing.TheVariants.{Transaction, Vi
 abbrev pub open_in : {H R : Type 0} → List (Open H R) → Name → Option (Thing H R)
 open_in [] name = None
 open_in (o ∷ os) name = if eq_by_cmp key_cmp name o.name then Some o.thing else open_in os name
+
+-- what reads for it
+abbrev pub reader_of : {H R : Type 0} → Thing H R → R
+reader_of (Transaction txn) = txn.reader.reader
+reader_of (View view) = view.reader.reader
+
+-- nothing through which one of these names reads ever fails
+pub record NoneFails {H R : Type 0} (opens : List (Open H R)) (faults : R → ℕ) : Type 0 where
+  pub each : (name : Name) (thing : Thing H R) → open_in opens name ≡ Some thing → faults (reader_of thing) ≡ never
 
 -- its ticket
 abbrev pub ticket_of : store.Thing → ℕ

@@ -1,5 +1,6 @@
 -- At which lines a read may fail, and at which files the disk may fail a line.
 use Rattle.std.specs.Prelude.{◌≡◌, ◌⊎◌, ◌≤◌, ◌<◌, ℕ, List, length, true, Option, None, Some}
+use Rattle.vl_disk.specs.Faults.{HasCounted}
 use Rattle.vl_disk.specs.declared.name.Name.{Name}
 use Rattle.vl_disk.specs.declared.name.Name.TheVariants.{Log, Manifest, Table}
 use Rattle.vl_engine_laws.specs.Represents.{file_of}
@@ -83,7 +84,7 @@ IsTableRead at = (e : Exchange) × (at ≡ Some e) × ReadsTables e.line e.befor
 -- A reader counted a fault, as each does whose read fails; or what writes a file of a merge did. A disk counts none of these.
 pub record ReaderFailed {R : Type 0} (faults : R → ℕ) : Type 0 where
   pub reader : R
-  pub some : 1 ≤ faults reader
+  pub some : HasCounted (faults reader)
 
 -- what fails beside a disk: a reader of its files, or what writes one that it has lent
 pub data Beside (R W : Type 0) : Type 0 where
@@ -94,6 +95,11 @@ pub data Beside (R W : Type 0) : Type 0 where
 abbrev pub beside : {R W : Type 0} → (R → ℕ) → (W → ℕ) → Beside R W → ℕ
 beside reads writes (ByReader reader) = reads reader
 beside reads writes (ByWriter writer) = writes writer
+
+-- So it did, which it can't where nothing is to fail beside the disk.
+pub record FailsBeside {R : Type 0} (never : Type 0) (faults : R → ℕ) : Type 0 where
+  pub failed : ReaderFailed faults
+  pub not_so : never → ⊥
 
 -- a table with a number from this one on and below that one
 abbrev pub IsTableBetween : (first next : ℕ) → Name → Type 0

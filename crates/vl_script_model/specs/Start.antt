@@ -90,6 +90,8 @@ DiskEndsFromStart g old new run =
 -- An opening failed since a read of a table did, which the opening's reader counted.
 pub record FailsAtTables {D R : Type 0} (g : Ghosts D) (faults : R → ℕ) (old new : D) : Type 0 where
   pub reader : ReaderFailed faults
+  -- so the disk gives readers that may fail;
+  pub gives : g.gives_steady old → ⊥
   -- the current manifest names tables, where the disk tells its bytes;
   pub tables : (state : DiskState) (read : Image) → g.told old ≡ Some state → IsRead read state → NamesNoTable read → ⊥
   -- and the disk counts no fault, and is as it was

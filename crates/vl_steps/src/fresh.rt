@@ -7,6 +7,7 @@ ghost use Rattle.vl_compact.specs.Progress.{HasRoom};
 ghost use Rattle.vl_disk.specs.Calls.{ChangesNothing};
 ghost use Rattle.vl_disk.specs.Disk.{IsFree};
 ghost use Rattle.vl_disk.specs.DiskState.{new_file};
+ghost use Rattle.vl_disk.specs.Faults.{IsNewCount};
 ghost use Rattle.vl_disk.specs.Name.{IsNumbered};
 ghost use Rattle.vl_disk.specs.Spare.{SameSpareElsewhere};
 ghost use Rattle.vl_disk.specs.declared.name.Name.TheVariants as names;
@@ -89,6 +90,7 @@ pub fn lend_new<D: Disk>(disk: &mut D, name: Name) -> Result<D::Writer, Failed>
     ensures lends { LendsNew D.Watched name disk.old disk.new result }
     ensures named { IfOk result (λ writer. D.Writer.Writer.named writer ≡ name) }
     ensures file { IfOk result (λ writer. ForSome (D.told disk.old) (λ _. D.Writer.Writer.file writer ≡ Some new_file)) }
+    ensures faults { IfOk result (λ writer. IsNewCount (D.gives_steady disk.old) (D.Writer.Writer.faults writer)) }
 {
     disk.create(name)?;
     disk.lend(name)

@@ -1,6 +1,8 @@
 -- A call fails only where a fault was counted, which none is over disks that never fail.
 use Rattle.std.proofs.Common.{◌≡◌, ℕ, subst, arith}
 use Rattle.std.specs.Prelude.{Option, None, Some, Result, Ok, Err, ◌≤◌}
+use Rattle.vl_model.specs.Cursors.{HasRisen}
+use Rattle.vl_disk.specs.laws.Counting.{none_rose}
 use Rattle.vl_compact.specs.declared.files.Lent.{Lent}
 use Rattle.vl_disk.specs.Faults.{HasCause, Rose}
 use Rattle.vl_steps.specs.Answers.{CommitFailed, begin_outcome, commit_outcome, view_outcome}
@@ -48,18 +50,17 @@ IsNoFault (Damaged name place) = Unit {0}
 pub no_fault : {A P : Type 0} {outcome : Outcome A} {name : FileName} → outcome ≡ Failed name → IsNoFault outcome → P
 no_fault at is = absurd (subst IsNoFault at is)
 
--- ---- counts that are always 0
+-- ---- counts of what never fails
 
-none_rose : (before now : ℕ) → before ≡ 0 → now ≡ 0 → Rose before now → ⊥
-none_rose before now was is rose =
-    let more : Rose 0 0 = subst (λ (n : ℕ). Rose 0 n) is (subst (λ (n : ℕ). Rose n now) was rose) in
-    let one : 1 ≤ 0 = more in omega arith
+-- what cursors and sources have it is the same
+risen : {before now : ℕ} → HasRisen before now → Rose before now
+risen rose = record { later = rose.later; more = rose.rose; counts = rose.counts }
 
 module _ {D R W : Type 0} (faults : D → ℕ) (read_faults : R → ℕ) (write_faults : W → ℕ) where
   pub unfailing : {A : Type 0} {fails : Type 0} (old new : D) (outcome : Outcome A) → HasCause (faults old) (faults new) fails
       → ((name : FileName) → outcome ≡ Failed name → fails) → NeverFails faults read_faults write_faults → Unfailing outcome
   unfailing old new outcome cause is_failure surely name at =
-      none_rose (faults old) (faults new) (surely.disks old) (surely.disks new) (cause.rose (is_failure name at))
+      none_rose (faults old) (faults new) (surely.disks new) (cause.rose (is_failure name at))
 
   pub move_unfailing : (old new : D) (looks looks_now : R) (log : ℕ) (r : Result ℕ MoveFail)
       → MoveCounts log (faults old) (faults new) (read_faults looks) (read_faults looks_now) r → NeverFails faults read_faults write_faults
@@ -70,9 +71,9 @@ module _ {D R W : Type 0} (faults : D → ℕ) (read_faults : R → ℕ) (write_
   move_unfailing old new looks looks_now log (Err (move.Full batch length frame)) counts surely name at = no_fault at tt
   move_unfailing old new looks looks_now log (Err (move.NoMemory batch)) counts surely name at = no_fault at tt
   move_unfailing old new looks looks_now log (Err (move.Read file)) counts surely name at =
-      none_rose (read_faults looks) (read_faults looks_now) (surely.readers looks) (surely.readers looks_now) counts.looks_rose.rose
+      none_rose (read_faults looks) (read_faults looks_now) (surely.readers looks_now) (risen counts.looks_rose)
   move_unfailing old new looks looks_now log (Err (move.Disk file)) counts surely name at =
-      none_rose (faults old) (faults new) (surely.disks old) (surely.disks new) counts.disk_rose
+      none_rose (faults old) (faults new) (surely.disks new) counts.disk_rose
   move_unfailing old new looks looks_now log (Err (move.Damaged batch file place)) counts surely name at = no_fault at tt
 
 -- ---- what was counted
@@ -86,7 +87,7 @@ module _ {D R : Type 0} (faults : D → ℕ) (read_faults : R → ℕ) where
   move_counted old new looks looks_now log (Err (move.Full batch length frame)) counts = tt
   move_counted old new looks looks_now log (Err (move.NoMemory batch)) counts = tt
   move_counted old new looks looks_now log (Err (move.Read file)) counts =
-      record { before = looks; after = looks_now; rose = counts.looks_rose.rose }
+      record { before = looks; after = looks_now; rose = risen counts.looks_rose }
   move_counted old new looks looks_now log (Err (move.Disk file)) counts =
       record { before = old; after = new; rose = counts.disk_rose }
   move_counted old new looks looks_now log (Err (move.Damaged batch file place)) counts = tt

@@ -4,6 +4,7 @@ use Rattle.std.specs.List.{AllByRecursion, slice_get}
 use Rattle.std.proofs.Common.{subst, sym, ◌∙◌, ⊎_elim, arith}
 use Rattle.std.proofs.lemmas.List.Elements.{All-contains, All-from_recursion, Contains-get_or}
 use Rattle.std.proofs.lemmas.Option.{get_or_from_slice_get, slice_get_within}
+use Rattle.vl_disk.specs.laws.Counting.{none_rose}
 use Rattle.vl_table.specs.body.Bytes.{table_bytes}
 use Rattle.vl_collect.specs.Faults as found
 use Rattle.vl_collect.specs.Faults.{Counts, FailsPassing, IsOfLog, IsOfLooks, IsTheirs, LacksMemory, MayWhere}
@@ -13,7 +14,7 @@ use Rattle.vl_disk.specs.declared.read_fault.ReadFault.{ReadFault}
 use Rattle.vl_collect.specs.declared.pass.Pass.{Pass as ThePass}
 use Rattle.vl_collect.specs.laws.StandingLaws.{given}
 use Rattle.vl_engine_laws.specs.MoveFacts.{AreThere}
-use Rattle.vl_disk.specs.Faults.{HasCause, Rose}
+use Rattle.vl_disk.specs.Faults.{HasCause, NoneCounted}
 use Rattle.vl_disk.specs.declared.name.Name.{Name as FileName}
 use Rattle.vl_space.specs.Collecting.{GoesOver}
 use Rattle.vl_engine_model.specs.Relocation.{Candidate, Pass, next_batch}
@@ -97,13 +98,9 @@ module _ {H : Type 0} (bytes : H → Option (List ℕ)) (ts : List (Table H)) wh
 
 -- ---- nothing but memory
 
-pub none_rose : (before now : ℕ) → before ≡ 0 → now ≡ 0 → Rose before now → ⊥
-none_rose before now was is rose =
-    let more : Rose 0 0 = subst (λ (n : ℕ). Rose 0 n) is (subst (λ (n : ℕ). Rose n now) was rose) in
-    let one : 1 ≤ 0 = more in omega arith
-
-pub none_risen : (before now : ℕ) → before ≡ 0 → now ≡ 0 → HasRisen before now → ⊥
-none_risen before now was is risen = none_rose before now was is risen.rose
+pub none_risen : (before now : ℕ) → NoneCounted now → HasRisen before now → ⊥
+none_risen before now none risen =
+    none_rose before now none (record { later = risen.later; more = risen.rose; counts = risen.counts })
 
 -- the only fault that there may be
 abbrev pub IsMemory : ReadFault → Type 0
@@ -111,8 +108,7 @@ IsMemory fault = fault ≡ faults.NoMemory
 
 module _ {H R : Type 0} (bytes : H → Option (List ℕ)) (pass : ThePass (Base H R) H) (p : Pass) (goes : GoesOver bytes pass p)
     (whole : IsWholeFrom bytes pass.log pass.at.place) (looks : BlockReader R) (fits : Fits bytes pass.base.version looks)
-    (counts : Counts) (sources_were : counts.sources_before ≡ 0) (sources_are : counts.sources_after ≡ 0)
-    (files_were : counts.files_before ≡ 0) (files_are : counts.files_after ≡ 0) where
+    (counts : Counts) (sources : NoneCounted counts.sources_after) (files : NoneCounted counts.files_after) where
   abbrev may : ReadFault → Type 0
   may = MayWhere (Fits bytes pass.base.version looks) (MayFailOn bytes (tables_in pass.base.version))
 
@@ -126,7 +122,7 @@ module _ {H R : Type 0} (bytes : H → Option (List ℕ)) (pass : ThePass (Base 
       of : (told : ReadFault) → fault ≡ told → MayFailOn bytes (tables_in pass.base.version) told
           → IsCounted (is_disk_fault told) counts.sources_before counts.sources_after → IsMemory fault
       of faults.NoMemory is had counted = is
-      of (faults.Disk name) is had counted = absurd (none_risen counts.sources_before counts.sources_after sources_were sources_are counted)
+      of (faults.Disk name) is had counted = absurd (none_risen counts.sources_before counts.sources_after sources counted)
       of (faults.Damaged name place) is had counted =
           absurd (none_bad bytes (tables_in pass.base.version) goes.base.had.tabled goes.base.had.tables name place had)
 
@@ -136,7 +132,7 @@ module _ {H R : Type 0} (bytes : H → Option (List ℕ)) (pass : ThePass (Base 
       of : (told : ReadFault) → fault ≡ told → found.IsThere bad told
           → HasCause counts.files_before counts.files_after (LogFailed (found.failing told)) → IsMemory fault
       of faults.NoMemory is there cause = is
-      of (faults.Disk name) is there cause = absurd (none_rose counts.files_before counts.files_after files_were files_are (cause.rose tt))
+      of (faults.Disk name) is there cause = absurd (none_rose counts.files_before counts.files_after files (cause.rose tt))
       of (faults.Damaged name place) is there cause =
           absurd (whole_not_torn bytes pass.log pass.at.place place goes.told goes.tells whole there)
 

@@ -6,9 +6,10 @@ use Rattle.std.proofs.Common.{sym, ap, subst, ◌∙◌, arith}
 use Rattle.std.proofs.lemmas.Bool.{false≢true}
 use Rattle.vl_disk.specs.Crash.{Image, MayLeave}
 use Rattle.vl_disk.specs.DiskState.{DiskState}
-use Rattle.vl_disk.specs.Faults.{HasCause}
+use Rattle.vl_disk.specs.Faults.{HasCause, HasCounted, NoneCounted}
 use Rattle.vl_disk.specs.Started.{IsRead, Started, read_left, started_left}
 use Rattle.vl_disk.specs.declared.watched.Watched.{Ghosts}
+use Rattle.vl_disk.specs.laws.Counting as counting
 use Rattle.vl_engine.specs.Opening.{IsAsBefore, IsDiskFault, IsFault}
 use Rattle.vl_engine_laws.specs.Carries.{CrashesShow}
 use Rattle.vl_engine_laws.specs.Found.{IsDurable, recovered}
@@ -42,7 +43,6 @@ use Rattle.vlstore.specs.Shops.{origin_of}
 use Rattle.vlstore.specs.Standing.{IsWhole, Parts}
 use Rattle.vlstore.specs.declared.locked.Origin.{Origin}
 use Rattle.vlstore.proofs.First.{no_steps}
-use Rattle.vlstore.proofs.PassLaws.{none_rose}
 
 pub some_same : (a b : DiskState) → Some a ≡ Some b → a ≡ b
 some_same a b e = cc
@@ -177,7 +177,7 @@ module _ {D R : Type 0} (g : Ghosts D) (faults_of : R → ℕ) (disk : D) where
   pub unopened : (fail : OpenFail D R)
       → ((state : DiskState) (read : Image) → g.told disk ≡ Some state → IsRead read state → AnswersBy read (recovery_by fail.why))
       → HasCause (g.faults disk) (g.faults fail.disk) (IsDiskFault (counted faults_of fail.reader) (Some fail.why))
-      → ((counted faults_of fail.reader ≡ 0 → ⊥) → IsFault (Some fail.why))
+      → (HasCounted (counted faults_of fail.reader) → IsFault (Some fail.why))
       → ((IsFault (Some fail.why) → ⊥) → IsAsBefore g disk fail.disk)
       → ((state : DiskState) (read : Image) (h : History) → g.told disk ≡ Some state → IsDurable state → IsRead read state
       → Shown read h (last_number h) → CrashesShow g disk fail.disk h h)
@@ -201,19 +201,20 @@ module _ {D R : Type 0} (g : Ghosts D) (faults_of : R → ℕ) (disk : D) where
   unseated now cause through again = record {
     answer = λ state read told is. tt;
     cause = cause;
-    read_fault = λ some. absurd (some refl);
+    read_fault = λ some. absurd (counting.none_counted.none some);
     left_alone = λ is. absurd is;
     through = through;
     again = again;
   }
 
 -- readers that count no fault
-pub none_counted : {R : Type 0} (faults : R → ℕ) → ((reader : R) → faults reader ≡ 0) → (reader : Option R) → counted faults reader ≡ 0
-none_counted faults never None = refl
+pub none_counted : {R : Type 0} (faults : R → ℕ) → ((reader : R) → NoneCounted (faults reader)) → (reader : Option R)
+    → NoneCounted (counted faults reader)
+none_counted faults never None = counting.none_counted
 none_counted faults never (Some reader) = never reader
 
-module _ {D R : Type 0} (g : Ghosts D) (faults_of : R → ℕ) (disks : (d : D) → g.faults d ≡ 0) (readers : (r : R) → faults_of r ≡ 0)
-    (disk : D) (left : DiskState) (told : g.told disk ≡ Some left) (kept : KeepsStore left) where
+module _ {D R : Type 0} (g : Ghosts D) (faults_of : R → ℕ) (disks : (d : D) → NoneCounted (g.faults d))
+    (readers : (r : R) → NoneCounted (faults_of r)) (disk : D) (left : DiskState) (told : g.told disk ≡ Some left) (kept : KeepsStore left) where
   -- What keeps a store is refused for want alone.
   pub only_want : (fail : OpenFail D R) → IsRefusedOpening g faults_of disk fail → IsOnlyWantOfOpening left fail.why
   only_want fail refused = by fail.why refl (λ read is. refused.answer left read told is) refused.cause
@@ -237,5 +238,4 @@ module _ {D R : Type 0} (g : Ghosts D) (faults_of : R → ℕ) (disks : (d : D) 
       by (why.Exhausted counter) is answer cause = answer
       by why.NoMemory is answer cause = tt
       by (why.Disk name) is answer cause =
-          none_rose (g.faults disk) (g.faults fail.disk) (disks disk) (disks fail.disk)
-          (cause.rose (none_counted faults_of readers fail.reader))
+          counting.none_rose (g.faults disk) (g.faults fail.disk) (disks fail.disk) (cause.rose (none_counted faults_of readers fail.reader))

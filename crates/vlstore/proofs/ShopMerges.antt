@@ -3,9 +3,11 @@ use Rattle.std.proofs.Common.{◌≡◌, ◌≢◌, ℕ, ◌+◌, ◌≤◌, Lis
 use Rattle.std.specs.Prelude.{Bool, true, false, if◌then◌else◌, Option, None, Some, Result, Ok, Err, IfErr, IsErrAnd, ⊤}
 use Rattle.vl_compact.specs.Laid.{AreTablesOf}
 use Rattle.vl_compact.specs.Stops.{MayStopIn}
+use Rattle.vl_disk.specs.Faults.{NoneCounted}
 use Rattle.vl_disk.specs.declared.read_fault.ReadFault.TheVariants as read
 use Rattle.vl_disk.specs.declared.read_fault.ReadFault.{ReadFault}
 use Rattle.vl_disk.specs.declared.writer.Writer.{Ghosts as Writers}
+use Rattle.vl_disk.specs.laws.Counting.{none_rose}
 use Rattle.vl_drive.specs.Refused as drive
 use Rattle.vl_drive.specs.declared.fails.StepFail.TheVariants as shop
 use Rattle.vl_drive.specs.declared.fails.StepFail.{StepFail}
@@ -30,7 +32,7 @@ use Rattle.vl_table.specs.CursorParts.{MayFailOn, is_disk_fault}
 use Rattle.vl_table.specs.OfTables.{AreOf}
 use Rattle.vl_table.specs.declared.table.Table.{Table}
 use Rattle.vl_version.specs.Sources.{tables_in}
-use Rattle.vlstore.proofs.PassLaws.{none_bad, none_risen, none_rose}
+use Rattle.vlstore.proofs.PassLaws.{none_bad, none_risen}
 use Rattle.vlstore.proofs.Stores.{prefix_on}
 use Rattle.vlstore.specs.Knowing.{GoesOn, Knows}
 use Rattle.vlstore.specs.Lists.{history_by, layout_by}
@@ -65,38 +67,37 @@ are_of bytes (t ∷ ts) [] are = absurd are
 are_of bytes (t ∷ ts) (l ∷ ls) are = (are.0.of, are_of bytes ts ls are.1)
 
 module _ {H R W : Type 0} (sure : Type 0) (surely : sure) (writers : Writers W) (bytes : H → Option (List ℕ)) (faults_of : R → ℕ)
-    (steady : (r : R) → faults_of r ≡ 0) (never : (w : W) → writers.faults w ≡ 0) (v m w : Knows) where
+    (steady : (r : R) → NoneCounted (faults_of r)) (never : (w : W) → NoneCounted (writers.faults w)) (v m w : Knows) where
   -- Nothing is read that isn't whole, and no file fails.
   making_wants : (fault : ReadFault) → FailsMaking v m sure writers bytes faults_of fault → fault ≡ read.NoMemory
   making_wants fault made = elim made.fails [
     | inl reads ↦ elim reads.cause [
       | inl memory ↦ memory.is
       | inr rest ↦ elim rest [
-        | inl sources ↦ looked fault (sources.had made.looks) (steady reads.before.looks.reader) (steady reads.after.looks.reader)
-            sources.counted
-        | inr files ↦ taken fault files.had (steady reads.before.files) (steady reads.after.files) files.counted
+        | inl sources ↦ looked fault (sources.had made.looks) (steady reads.after.looks.reader) sources.counted
+        | inr files ↦ taken fault files.had (steady reads.after.files) files.counted
       ]
     ]
     | inr writes ↦ elim writes.cause [
       | inl wanted ↦ wanted.is
       | inr failed ↦ absurd (none_rose (writers.faults writes.file.writer) (writers.faults writes.leaving.writer)
-          (never writes.file.writer) (never writes.leaving.writer) failed.rose)
+          (never writes.leaving.writer) failed.rose)
     ]
   ]
     where
-      looked : (f : ReadFault) → MayFailOn bytes (tables_in made.job.base.version) f → {before now : ℕ} → before ≡ 0 → now ≡ 0
+      looked : (f : ReadFault) → MayFailOn bytes (tables_in made.job.base.version) f → {before now : ℕ} → NoneCounted now
           → IsCounted (is_disk_fault f) before now → f ≡ read.NoMemory
-      looked read.NoMemory may was is counted = refl
-      looked (read.Disk name) may {before} {now} was is counted = absurd (none_risen before now was is counted)
-      looked (read.Damaged name place) may was is counted =
+      looked read.NoMemory may none counted = refl
+      looked (read.Disk name) may {before} {now} none counted = absurd (none_risen before now none counted)
+      looked (read.Damaged name place) may none counted =
           let has = made.has.is.base in
           absurd (none_bad bytes (tables_in made.job.base.version) has.tabled has.tables name place may)
 
-      taken : (f : ReadFault) → MayStopIn bytes made.key made.job.inputs.tables.items f → {before now : ℕ} → before ≡ 0 → now ≡ 0
+      taken : (f : ReadFault) → MayStopIn bytes made.key made.job.inputs.tables.items f → {before now : ℕ} → NoneCounted now
           → IsCounted (is_disk_fault f) before now → f ≡ read.NoMemory
-      taken read.NoMemory may was is counted = refl
-      taken (read.Disk name) may {before} {now} was is counted = absurd (none_risen before now was is counted)
-      taken (read.Damaged name place) (i, t, there, named, stops) was is counted =
+      taken read.NoMemory may none counted = refl
+      taken (read.Disk name) may {before} {now} none counted = absurd (none_risen before now none counted)
+      taken (read.Damaged name place) (i, t, there, named, stops) none counted =
           let has = made.has.is in
           absurd (none_bad bytes made.job.inputs.tables.items (map (λ (l : laid.Table). l.entries) has.tables)
           (are_of bytes made.job.inputs.tables.items has.tables has.inputs) name place (i, t, there, named, stops.bad))

@@ -2,7 +2,8 @@
 use Rattle.std.proofs.Common.{◌≡◌, ℕ, Bool, true, cond, List, [], ◌∷◌, ◌++◌, length, refl, sym, ap, ◌∙◌, subst}
 use Rattle.std.specs.FinMap.{get, insert}
 use Rattle.std.specs.Prelude.{IfOk, IsOk, None, OnOk, Option, Result, Ok, Err, Some, is_some, nat_le, ⊤}
-use Rattle.vl_disk.specs.Faults.{HasCause}
+use Rattle.vl_disk.specs.Faults.{HasCause, NoneCounted}
+use Rattle.vl_disk.specs.laws.Counting.{none_rose}
 use Rattle.vl_reads.specs.Reading.{IsRefusedBy, IsSound, ReadFailed}
 use Rattle.vl_reads.specs.declared.fails.ReadFail.{ReadFail}
 use Rattle.vl_reads.specs.declared.fails.ReadFail.TheVariants as why
@@ -19,7 +20,6 @@ use Rattle.vl_txn.specs.declared.set_fail.SetFail.{SetFail}
 use Rattle.vl_txn.specs.declared.set_fail.SetFail.TheVariants as set_fails
 use Rattle.vlstore.specs.Shops.{IsOnlyWant, IsOnlyWantOfSet}
 use Rattle.vlstore.proofs.KeyLengths.{key_within, short_key, some_key}
-use Rattle.vlstore.proofs.PassLaws.{none_rose}
 
 -- ---- lawful keys
 
@@ -35,15 +35,15 @@ not_both o k none some = let no : None ≡ Some k = sym none ∙ some in absurd 
 
 -- only memory may be wanting
 pub read_sound : {T : Type 0} (key : List ℕ) (before now : ℕ) (r : Result T ReadFail) → is_key_length (length key) ≡ true
-    → IsRefusedBy (refused_key key) r → HasCause before now (ReadFailed r) → before ≡ 0 → now ≡ 0 → IsSound r → IsOnlyWant r
-read_sound key before now (Ok answer) lawful refused cause was is sound = tt
-read_sound key before now (Err why.EmptyKey) lawful refused cause was is sound =
+    → IsRefusedBy (refused_key key) r → HasCause before now (ReadFailed r) → NoneCounted now → IsSound r → IsOnlyWant r
+read_sound key before now (Ok answer) lawful refused cause none sound = tt
+read_sound key before now (Err why.EmptyKey) lawful refused cause none sound =
     not_both (refused_key key) EmptyKey (key_taken key lawful) refused
-read_sound key before now (Err why.KeyTooLong) lawful refused cause was is sound =
+read_sound key before now (Err why.KeyTooLong) lawful refused cause none sound =
     not_both (refused_key key) KeyTooLong (key_taken key lawful) refused
-read_sound key before now (Err why.NoMemory) lawful refused cause was is sound = tt
-read_sound key before now (Err (why.Disk name)) lawful refused cause was is sound = none_rose before now was is (cause.rose tt)
-read_sound key before now (Err (why.Damaged name place)) lawful refused cause was is sound = sound tt
+read_sound key before now (Err why.NoMemory) lawful refused cause none sound = tt
+read_sound key before now (Err (why.Disk name)) lawful refused cause none sound = none_rose before now none (cause.rose tt)
+read_sound key before now (Err (why.Damaged name place)) lawful refused cause none sound = sound tt
 
 -- ---- a key that isn't written
 

@@ -2,7 +2,7 @@
 use Rattle.std.specs.Prelude.{◌≡◌, ℕ, Some}
 use Rattle.vl_disk.specs.Crash.{Image}
 use Rattle.vl_disk.specs.DiskState.{DiskState}
-use Rattle.vl_disk.specs.Faults.{HasCause}
+use Rattle.vl_disk.specs.Faults.{HasCause, HasCounted}
 use Rattle.vl_disk.specs.Started.{IsRead}
 use Rattle.vl_disk.specs.declared.watched.Watched.{Ghosts}
 use Rattle.vl_engine.specs.Opening.{IsAsBefore, IsDiskFault, IsFault}
@@ -33,7 +33,7 @@ pub record IsRefusedOpening {D R : Type 0} (g : Ghosts D) (faults_of : R → ℕ
   -- a fault is counted, by the disk or by the reader that is handed back
   pub cause : HasCause (g.faults disk) (g.faults fail.disk) (IsDiskFault (counted faults_of fail.reader) (Some fail.why))
   -- what that reader failed at is answered as a fault
-  pub read_fault : (counted faults_of fail.reader ≡ 0 → ⊥) → IsFault (Some fail.why)
+  pub read_fault : HasCounted (counted faults_of fail.reader) → IsFault (Some fail.why)
   -- a refusal changes nothing
   pub left_alone : IsRefusal fail.why → IsAsBefore g disk fail.disk
   -- what a crash meanwhile leaves shows the same history

@@ -1,5 +1,6 @@
 -- What an engine under the lock stands for: all steps that were made there.
 use Rattle.std.specs.Prelude.{◌≡◌, ℕ, Bool, true, List, [], ◌∷◌, Option, None, Some}
+use Rattle.vl_disk.specs.Faults.{NoneCounted}
 use Rattle.vl_engine_laws.specs.Lasts.{Lasts}
 use Rattle.vl_engine_laws.specs.MayStep.{Fits}
 use Rattle.vl_engine_laws.specs.Represents.{Represents}
@@ -47,9 +48,9 @@ pub record IsWhole {H L : Type 0} (bytes : H → Option (List ℕ)) (x : Parts H
 
 -- No disk of this type counts a fault, and nothing that reads or writes its files does.
 pub record NeverFails {D R W : Type 0} (faults : D → ℕ) (read_faults : R → ℕ) (write_faults : W → ℕ) : Type 0 where
-  pub disks : (d : D) → faults d ≡ 0
-  pub readers : (r : R) → read_faults r ≡ 0
-  pub writers : (w : W) → write_faults w ≡ 0
+  pub disks : (d : D) → NoneCounted (faults d)
+  pub readers : (r : R) → NoneCounted (read_faults r)
+  pub writers : (w : W) → NoneCounted (write_faults w)
 
 -- What lasts through a step: a log over which a pass may go, so that the layout behind has no other one of its
 -- number; and a halt.

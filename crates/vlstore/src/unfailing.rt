@@ -9,8 +9,9 @@ pub trait Unfailing: Disk {
 }
 
 impl Unfailing for SureDisk {
-    ghost use Rattle.std.specs.Prelude.{refl};
-    ghost use Rattle.vl_mem.specs.SureDisk.{never_fails};
+    ghost use Rattle.vl_disk.specs.laws.Counting.{never_counted, zero_counted};
+    ghost use Rattle.vl_mem.specs.SureDisk.{faults_on, never_fails};
 
-    ghost unfailing = { record { disks = never_fails; readers = λ reader. refl; writers = λ writer. refl } };
+    ghost unfailing = { record { disks = λ disk. zero_counted (faults_on disk) (never_fails disk);
+        readers = λ reader. never_counted; writers = λ writer. never_counted } };
 }

@@ -1,4 +1,5 @@
 ghost use Rattle.std.specs.Prelude.{◌≡◌, [], IfOk};
+ghost use Rattle.vl_disk.specs.Faults.{IsNewCount};
 ghost use Rattle.vl_engine.specs.Beginning.{past_now};
 ghost use Rattle.lru.specs.LruCache.{lru_cache};
 ghost use Rattle.vl_steps.specs.Answers.{begin_outcome, view_outcome};
@@ -74,6 +75,9 @@ impl<D: Disk> Engine<D> {
         // It may keep so many reads, and keeps none yet.
         ensures cache { IfOk result (λ txn. txn.reader.reader.kept ≡ lru_cache [] 64) }
 
+        // Its reader has counted no fault, and never will where the disk gives such.
+        ensures faults { IfOk result (λ txn. IsNewCount (D.gives_steady self.old.disk) (D.Reader.faults txn.reader.reader.inner)) }
+
         // The disk isn't asked, and what steps and the open merge need stays.
         ensures disk { self.new.disk ≡ self.old.disk }
         ensures back { self.new.core.back ≡ self.old.core.back }
@@ -122,6 +126,7 @@ impl<D: Disk> Engine<D> {
 
         // It may keep so many reads, and keeps none yet.
         ensures cache { IfOk result (λ view. view.reader.reader.kept ≡ lru_cache [] 64) }
+        ensures faults { IfOk result (λ view. IsNewCount (D.gives_steady self.old.disk) (D.Reader.faults view.reader.reader.inner)) }
         ensures disk { self.new.disk ≡ self.old.disk }
         ensures back { self.new.core.back ≡ self.old.core.back }
         ensures merging { self.new.merging ≡ self.old.merging }
@@ -160,6 +165,7 @@ impl<D: Disk> Engine<D> {
     fn looks(&self) -> Result<BlockReader<Cached<D::Reader>>, NoMemory>
         ensures blocks { (files : Files) → IfOk result (AreKept files) }
         ensures cache { IfOk result (λ looks. looks.reader.kept ≡ lru_cache [] 64) }
+        ensures faults { IfOk result (λ looks. IsNewCount (D.gives_steady self.now.disk) (D.Reader.faults looks.reader.inner)) }
     {
         let reader = Cached::new(self.alloc, self.disk.reader(self.alloc)?, CACHED_READS)?;
         let blocks = if has_tables(&self.core.back.state) {

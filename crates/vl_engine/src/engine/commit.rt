@@ -88,8 +88,9 @@ impl<D: Disk> Engine<D> {
         // Where nothing is committed and the disk didn't fail, the disk was left alone, at each moment.
         ensures untouched { LeavesDisk result → ChangesNothing D.Watched self.old.disk self.new.disk ⊥ }
 
-        // A disk that told nothing tells nothing then.
+        // A disk that told nothing tells nothing then. One of which nothing that it gives ever fails stays so.
         ensures untold { OnOk result (StaysUntold (D.told self.old.disk) (D.told self.new.disk)) }
+        ensures steady { D.gives_steady self.old.disk → D.gives_steady self.new.disk }
 
         // One that is handed back is as it was.
         ensures back { (back : Txn D.Held _) → handed_back result ≡ Some back → back ≡ txn }

@@ -70,8 +70,9 @@ impl<D: Disk> Engine<D> {
         // Where no table was made and the disk didn't fail, it was left alone, at each moment.
         ensures untouched { StepLeavesDisk result → ChangesNothing D.Watched self.old.disk self.new.disk ⊥ }
 
-        // A disk that told nothing tells nothing then.
+        // A disk that told nothing tells nothing then. One of which nothing that it gives ever fails stays so.
         ensures untold { OnOk result (StaysUntold (D.told self.old.disk) (D.told self.new.disk)) }
+        ensures steady { D.gives_steady self.old.disk → D.gives_steady self.new.disk }
 
         // However it ends, no file but that of the table comes or goes.
         ensures files { KeepsOthers (names.Table self.old.core.back.state.next_table) (D.told self.old.disk) (D.told self.new.disk) }

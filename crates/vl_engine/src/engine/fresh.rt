@@ -5,7 +5,7 @@ ghost use Rattle.vl_compact.specs.Progress.{HasRoom};
 ghost use Rattle.vl_disk.specs.Calls.{ChangesNothing};
 ghost use Rattle.vl_disk.specs.Disk.{IsChangedBy};
 ghost use Rattle.vl_disk.specs.DiskState.{DiskState, new_file};
-ghost use Rattle.vl_disk.specs.Faults.{HasCause, after_calls};
+ghost use Rattle.vl_disk.specs.Faults.{HasCause, IsNewCount, after_calls};
 ghost use Rattle.vl_disk.specs.declared.name.Name.TheVariants as names;
 ghost use Rattle.vl_disk.specs.declared.name.Name.{Name};
 ghost use Rattle.vl_engine_laws.specs.Carries.{Carries, StaysUntold};
@@ -73,6 +73,9 @@ impl<D: Disk> Engine<D> {
         ensures number { IfOk result (λ file. file.number ≡ self.old.core.back.state.next_table) }
         ensures empty { IfOk result (λ file. ForSome (D.told self.old.disk)
             (λ _. D.Writer.Writer.file file.writer ≡ Some new_file)) }
+        // What writes it has counted no fault, and never will where the disk gives such; it gives such still.
+        ensures writer { IfOk result (λ file. IsNewCount (D.gives_steady self.old.disk) (D.Writer.faults file.writer)) }
+        ensures steady { D.gives_steady self.old.disk → D.gives_steady self.new.disk }
         ensures merging { IfOk result (λ file. IsLentMore self.old.merging self.new.merging file.number) }
         ensures fresh { IfOk result (λ file. IsNewTo self.old.merging file.number) }
         ensures refused { OnErr result (IsSameMerge self.old.merging self.new.merging) }

@@ -100,8 +100,9 @@ impl<D: Disk> Engine<D> {
         ensures files { KeepsAllBut (made_numbers job) (D.told self.old.disk) (D.told self.new.disk) }
         ensures calls { OnOk result (D.calls self.new.disk ≡ after_calls 2 (D.calls self.old.disk)) }
 
-        // A disk that told nothing tells nothing then.
+        // A disk that told nothing tells nothing then. One of which nothing that it gives ever fails stays so.
         ensures untold { OnOk result (StaysUntold (D.told self.old.disk) (D.told self.new.disk)) }
+        ensures steady { D.gives_steady self.old.disk → D.gives_steady self.new.disk }
 
         // Where the tables were put in, all were taken back, and behind them the manifest has the frame that names them.
         ensures written { OnOk result (IsInstallWritten D.Watched D.Held.bytes D.Writer.Writer job self.old.core self.old.disk

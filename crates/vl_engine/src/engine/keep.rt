@@ -54,8 +54,9 @@ impl<D: Disk> Engine<D> {
         ensures untouched { KeepLeavesDisk self.old.core.back.state.keep versions result
             → ChangesNothing D.Watched self.old.disk self.new.disk ⊥ }
 
-        // A disk that told nothing tells nothing then.
+        // A disk that told nothing tells nothing then. One of which nothing that it gives ever fails stays so.
         ensures untold { OnOk result (StaysUntold (D.told self.old.disk) (D.told self.new.disk)) }
+        ensures steady { D.gives_steady self.old.disk → D.gives_steady self.new.disk }
 
         // However it ends, no file comes or goes. Where another number is kept then, the manifest has the frame that says it,
         // and the disk is as before else, after two changing calls.

@@ -1,4 +1,4 @@
-ghost use Rattle.std.specs.Prelude.{◌≡◌, ◌&&◌, false, not, IfOk, None, Ok, OnOk, Some};
+ghost use Rattle.std.specs.Prelude.{◌≡◌, ◌&&◌, Err, false, not, IfOk, None, Ok, OnOk, Some};
 ghost use Rattle.vl_space.specs.Collecting.{Collects};
 ghost use Rattle.vl_steps.specs.Installing.{IsHandedIn};
 ghost use Rattle.vl_steps.specs.Merging.{FitsReaders, HasMerge};
@@ -7,7 +7,9 @@ ghost use Rattle.vl_engine_laws.specs.Lent.{StandsOpen};
 ghost use Rattle.vl_space.specs.Removing.{Removes};
 ghost use Rattle.vl_engine_laws.specs.Represents.{Represents};
 ghost use Rattle.vl_engine_laws.specs.MayStep.{Fits};
+ghost use Rattle.vl_disk.specs.Faults.{Rose};
 ghost use Rattle.vl_disk.specs.declared.name.Name.{Name};
+ghost use Rattle.vl_engine.specs.declared.fails.MergeFail.TheVariants as fails;
 ghost use Rattle.std.specs.Option.{ForSome, is_some};
 ghost use Rattle.vl_disk.specs.Performs.{GoesOnTelling};
 ghost use Rattle.vl_engine.specs.Merged.{MergesAs, PutsIn};
@@ -64,6 +66,9 @@ impl<D: Disk> Engine<D> {
         // while it is done, so it is never raced.
         ensures as_merged { MergesAs D.Watched D.Writer.Writer D.Held.bytes (λ r. D.Reader.faults r)
             (moment self.old.core self.old.merging self.old.disk) (moment self.new.core self.new.merging self.new.disk) result }
+        // Over a disk that gives only what never fails, a fault is the disk's, which counted it.
+        ensures sure { (name : Name) → D.gives_steady self.old.disk → result ≡ Err (fails.Disk name)
+            → Rose (D.faults self.old.disk) (D.faults self.new.disk) }
         // A halted engine does nothing.
         ensures untouched { (name : Name) → self.old.core.front.halted ≡ Some name → LeavesStore D.Watched
             (moment self.old.core self.old.merging self.old.disk) (moment self.new.core self.new.merging self.new.disk) }
@@ -127,6 +132,8 @@ impl<D: Disk> Engine<D> {
         // Whatever is told: what it answers has its cause, and what it leaves in memory is said of each answer.
         ensures as_made { CarriesOutAs D.Writer.Writer D.Held.bytes (λ r. D.Reader.faults r) D.Watched job.old job.new.after
             (moment self.old.core self.old.merging self.old.disk) (moment self.new.core self.new.merging self.new.disk) result }
+        ensures sure { (name : Name) → D.gives_steady self.old.disk → result ≡ Err (fails.Disk name)
+            → Rose (D.faults self.old.disk) (D.faults self.new.disk) }
         // A halted engine does nothing.
         ensures idle { (name : Name) → self.old.core.front.halted ≡ Some name → LeavesStore D.Watched
             (moment self.old.core self.old.merging self.old.disk) (moment self.new.core self.new.merging self.new.disk) }

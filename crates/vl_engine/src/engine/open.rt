@@ -2,7 +2,7 @@ ghost use Rattle.std.specs.Prelude.{◌≡◌, ◌≤◌, ◌+◌, All, List, []
 ghost use Rattle.vl_disk.specs.Calls.{ChangesNothing};
 ghost use Rattle.vl_disk.specs.Crash.{Image};
 ghost use Rattle.vl_disk.specs.DiskState.{DiskState};
-ghost use Rattle.vl_disk.specs.Faults.{HasCause, after_calls};
+ghost use Rattle.vl_disk.specs.Faults.{HasCause, HasCounted, NoneCounted, after_calls};
 ghost use Rattle.vl_disk.specs.Moments.{HoldsThroughout};
 ghost use Rattle.vl_disk.specs.Started.{IsRead};
 ghost use Rattle.vl_disk.specs.declared.name.Name.{Name};
@@ -117,11 +117,13 @@ impl<D: Disk> Engine<D> {
         ensures cause { HasCause (D.faults disk) (D.faults (disk_behind result))
             (IsDiskFault (reader_faults D.Reader.faults result) (why_of result)) }
         // What that reader failed at is answered as a fault: not as want of memory, and not as damage.
-        ensures read_fault { (reader_faults D.Reader.faults result ≡ 0 → ⊥) → IsFault (why_of result) }
+        ensures read_fault { HasCounted (reader_faults D.Reader.faults result) → IsFault (why_of result) }
+        // One that never fails counted none: so each fault is the disk's.
+        ensures steady { D.gives_steady disk → NoneCounted (reader_faults D.Reader.faults result) }
         // Where no table is named it isn't asked. Where it counted a fault nothing is changed.
         ensures unread { (state : DiskState) (read : Image) → D.told disk ≡ Some state → IsRead read state → NamesNoTable read
-            → reader_faults D.Reader.faults result ≡ 0 }
-        ensures unmoved { (reader_faults D.Reader.faults result ≡ 0 → ⊥) → IsAsBefore D.Watched disk (disk_behind result) }
+            → NoneCounted (reader_faults D.Reader.faults result) }
+        ensures unmoved { HasCounted (reader_faults D.Reader.faults result) → IsAsBefore D.Watched disk (disk_behind result) }
         ensures at { (state : DiskState) (read : Image) → D.told disk ≡ Some state → IsRead read state
             → IfErr result (λ fail. FaultsAt read state (D.calls disk) (D.calls (disk_behind result)) (recovery_by fail.why)) }
 

@@ -3,6 +3,7 @@ ghost use Rattle.std.specs.Option.{ForSome, is_some};
 ghost use Rattle.vl_compact.specs.Laid.{AreBoth};
 ghost use Rattle.vl_compact.specs.Progress.{IsNew, made_of};
 ghost use Rattle.vl_steps.specs.Merging.{FitsReaders, HasMerge, IsJustOpen, IsMergeFor, IsMergeOf, OpensMerge, plan_outcome};
+ghost use Rattle.vl_disk.specs.Faults.{IsNewCount};
 ghost use Rattle.vl_engine_laws.specs.Lent.{StandsOpen};
 ghost use Rattle.vl_steps.specs.Planning.{IsChosen, PlansWhere, is_due, is_led_into};
 ghost use Rattle.vl_engine_laws.specs.Represents.{Fronts, Represents, StandsFor};
@@ -239,7 +240,8 @@ impl<D: Disk> Engine<D> {
         // So look-ups by it in what the engine has now are told.
         ensures fits { (h : History) (l : Layout) → StandsFor D.Held.bytes self.now.core h l
             → IfOk result (λ reader. bases.Fits D.Held.bytes self.now.core.version reader.looks) }
-        ensures faults { IfOk result (λ reader. (D.Reader.faults reader.files ≡ 0) × (D.Reader.faults reader.looks.reader ≡ 0)) }
+        ensures files { IfOk result (λ reader. IsNewCount (D.gives_steady self.now.disk) (D.Reader.faults reader.files)) }
+        ensures looks { IfOk result (λ reader. IsNewCount (D.gives_steady self.now.disk) (D.Reader.faults reader.looks.reader)) }
     {
         let files = self.disk.reader(self.alloc)?;
         let inner = self.disk.reader(self.alloc)?;

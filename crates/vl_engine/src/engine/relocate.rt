@@ -100,8 +100,9 @@ impl<D: Disk> Engine<D> {
         ensures untouched { MoveLeavesDisk result → ChangesNothing D.Watched self.old.disk self.new.disk ⊥ }
         ensures calls { OnOk result (D.calls self.new.disk ≡ after_calls (move_effects result).calls (D.calls self.old.disk)) }
 
-        // A disk that told nothing tells nothing then.
+        // A disk that told nothing tells nothing then. One of which nothing that it gives ever fails stays so.
         ensures untold { OnOk result (StaysUntold (D.told self.old.disk) (D.told self.new.disk)) }
+        ensures steady { D.gives_steady self.old.disk → D.gives_steady self.new.disk }
 
         // A batch that is handed back is the one that was given.
         ensures back { (back : List Candidate) → batch_back result ≡ Some back → back ≡ batch }

@@ -60,8 +60,9 @@ impl<D: Disk> Engine<D> {
         // Where no log was begun and the disk didn't fail, it was left alone, at each moment.
         ensures untouched { StepLeavesDisk result → ChangesNothing D.Watched self.old.disk self.new.disk ⊥ }
 
-        // A disk that told nothing tells nothing then.
+        // A disk that told nothing tells nothing then. One of which nothing that it gives ever fails stays so.
         ensures untold { OnOk result (StaysUntold (D.told self.old.disk) (D.told self.new.disk)) }
+        ensures steady { D.gives_steady self.old.disk → D.gives_steady self.new.disk }
 
         // However it ends, no file but the new log comes or goes. Where a log was begun, three more calls changed a file.
         ensures files { KeepsOthers (names.Log self.old.core.back.next_log) (D.told self.old.disk) (D.told self.new.disk) }

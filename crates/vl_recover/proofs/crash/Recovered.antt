@@ -5,7 +5,7 @@ use Rattle.std.specs.Option.{ForSome, option_map}
 use Rattle.vl_disk.specs.Calls.{ChangesNothing}
 use Rattle.vl_disk.specs.Crash.{Image, Unchanged}
 use Rattle.vl_disk.specs.DiskState.{DiskState, IsLawful}
-use Rattle.vl_disk.specs.Faults.{HasCause, Rose, after_calls}
+use Rattle.vl_disk.specs.Faults.{HasCause, NoneCounted, Rose, after_calls}
 use Rattle.vl_disk.specs.Moments.{HoldsThroughout, goes_by, waits}
 use Rattle.vl_disk.specs.Started.{IsRead}
 use Rattle.vl_disk.specs.declared.name.Name.{Name}
@@ -42,7 +42,7 @@ use Rattle.vl_recover.specs.opening.HeldFiles.{AreHeldFound, AreHeldLogs, IsRead
 use Rattle.vl_recover.specs.opening.Plans.{active_log, new_state}
 use Rattle.vl_recover.specs.repairing.Holding.{IsHeld, listed}
 use Rattle.vl_recover.specs.laws.opening.ReadImage.{read_image}
-use Rattle.vl_recover.specs.opening.Results.{HasFailed, FailsWithoutFault, IsDiskFault, recovery_by, frozen_log}
+use Rattle.vl_recover.specs.opening.Results.{FailsWithoutFault, HasFailed, IsDiskFault, frozen_log, recovery_by}
 use Rattle.vl_recover.specs.crash.Starts.{MayOpen}
 use Rattle.vl_recover.specs.repairing.Steps.{IsFailAt, MakesSome, Repairs}
 use Rattle.vl_recover.specs.declared.fails.OpenError.{OpenError}
@@ -124,8 +124,8 @@ refused_disk n NoMemory refused failed = failed
 refused_disk n (Faulted name) refused failed = refused
 
 -- a fault of the disk was counted where the reader had counted none
-pub fault_counted : (before mid now read_faults : ℕ) → mid ≡ before → read_faults ≡ 0 → HasCause mid now (Unit {0})
-    → HasCause before now (read_faults ≡ 0)
+pub fault_counted : (before mid now read_faults : ℕ) → mid ≡ before → NoneCounted read_faults → HasCause mid now (Unit {0})
+    → HasCause before now (NoneCounted read_faults)
 fault_counted before mid now read_faults same none cause = record {
   later = (let later = cause.later in omega (arith, later, same));
   rose = λ _. subst (λ (n : ℕ). Rose n now) same (cause.rose tt);

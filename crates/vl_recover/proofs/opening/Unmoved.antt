@@ -6,7 +6,7 @@ use Rattle.vl_disk.specs.declared.watched.Watched.{Ghosts}
 use Rattle.vl_disk.specs.Calls.{ChangesNothing}
 use Rattle.vl_disk.specs.Crash.{Unchanged}
 use Rattle.vl_disk.specs.DiskState.{DiskState}
-use Rattle.vl_disk.specs.Faults.{Rose}
+use Rattle.vl_disk.specs.Faults.{HasCounted, NoneCounted, Rose}
 use Rattle.vl_disk.specs.Moments.{While, passes_none, passes_then, past_of}
 use Rattle.vl_recover.specs.declared.fails.OpenError.{OpenError}
 use Rattle.vl_recover.specs.opening.Answers.{Faulted, NoMemory, Recovered, Recovery, Refused, UsedUp}
@@ -17,7 +17,7 @@ false_true : false ≡ true → ⊥
 false_true e = cc
 
 -- where the reader has counted none, a fault is the disk's
-at_disk : (faults : ℕ) → faults ≡ 0 → (r : Recovery) → HasFailed r → IsDiskFault faults r
+at_disk : (faults : ℕ) → NoneCounted faults → (r : Recovery) → HasFailed r → IsDiskFault faults r
 at_disk faults none (Recovered opened) failed = failed
 at_disk faults none (Refused why) failed = failed
 at_disk faults none (UsedUp counter) failed = failed
@@ -32,12 +32,12 @@ of_disk faults NoMemory failed = failed
 of_disk faults (Faulted name) failed = tt
 
 -- where the reader has counted some, a fault isn't the disk's
-pub reader_failed : (faults : ℕ) (r : Recovery) → (faults ≡ 0 → ⊥) → IsDiskFault faults r → ⊥
+pub reader_failed : (faults : ℕ) (r : Recovery) → HasCounted faults → IsDiskFault faults r → ⊥
 reader_failed faults (Recovered opened) some failed = failed
 reader_failed faults (Refused why) some failed = failed
 reader_failed faults (UsedUp counter) some failed = failed
 reader_failed faults NoMemory some failed = failed
-reader_failed faults (Faulted name) some failed = some failed
+reader_failed faults (Faulted name) some failed = failed.none some
 
 module _ {D : Type 0} (g : Ghosts D) where
   pub no_call : (disk : D) → ChangesNothing g disk disk ⊥
@@ -87,7 +87,7 @@ module _ {D : Type 0} (g : Ghosts D) where
   }
 
   -- a fault is the disk's own, where the reader has counted none
-  pub as_disk_fault : (a b : D) (faults : ℕ) (e : OpenError) → faults ≡ 0 → ChangesNothing g a b (HasFailed (recovery_by e))
+  pub as_disk_fault : (a b : D) (faults : ℕ) (e : OpenError) → NoneCounted faults → ChangesNothing g a b (HasFailed (recovery_by e))
       → ChangesNothing g a b (IsDiskFault faults (recovery_by e))
   as_disk_fault a b faults e none call = call_with a b (HasFailed (recovery_by e)) (IsDiskFault faults (recovery_by e))
       (at_disk faults none (recovery_by e)) (of_disk faults (recovery_by e)) call

@@ -1,5 +1,6 @@
 -- An opening's result as its contract sees it.
 use Rattle.std.specs.Prelude.{◌≡◌, ℕ, map, Option, None, Some, Result, Ok, Err}
+use Rattle.vl_disk.specs.Faults.{NoneCounted}
 use Rattle.vl_recover.specs.declared.fails.OpenFail.{OpenFail}
 use Rattle.vl_recover.specs.declared.fails.OpenError.{OpenError}
 use Rattle.vl_recover.specs.declared.fails.OpenError.TheVariants as why
@@ -67,7 +68,7 @@ IsDiskFault read_faults (Recovered opened) = ⊥
 IsDiskFault read_faults (Refused refusal) = ⊥
 IsDiskFault read_faults (UsedUp counter) = ⊥
 IsDiskFault read_faults NoMemory = ⊥
-IsDiskFault read_faults (Faulted name) = read_faults ≡ 0
+IsDiskFault read_faults (Faulted name) = NoneCounted read_faults
 
 -- it wasn't opened, and the disk didn't fail
 abbrev pub FailsWithoutFault : Recovery → Type 0

@@ -1,9 +1,10 @@
 -- An opening that failed: by the disk, which counts it, or by the reader that it made.
-use Rattle.std.proofs.Common.{◌≡◌, ◌≤◌, ◌⊎◌, ⊎_elim, inl, inr, ℕ, zero, suc, refl, sym, ◌∙◌, subst, arith}
+use Rattle.std.proofs.Common.{◌≡◌, ◌⊎◌, ⊎_elim, inl, inr, ℕ, refl, sym, subst}
 use Rattle.std.specs.Prelude.{Option, None, Some}
+use Rattle.vl_disk.specs.laws.Counting.{counted_or_not, none_counted}
 use Rattle.vl_disk.specs.Crash.{Image}
 use Rattle.vl_disk.specs.DiskState.{DiskState}
-use Rattle.vl_disk.specs.Faults.{HasCause, Rose}
+use Rattle.vl_disk.specs.Faults.{HasCause, HasCounted, NoneCounted, Rose}
 use Rattle.vl_disk.specs.Started.{IsRead}
 use Rattle.vl_disk.specs.declared.name.Name.{Name}
 use Rattle.vl_disk.specs.declared.watched.Watched.{Ghosts}
@@ -25,7 +26,7 @@ use Rattle.vl_replay.proofs.Runs.OpenedRuns.{counts_disk}
 use Rattle.vl_replay.proofs.Runs.Refusals.{fault_for, fault_of, no_fault}
 
 -- where the reader has counted none, a fault is the disk's
-by_disk_itself : (n : ℕ) (reason : OpenError) → n ≡ 0 → IsFault (Some reason) → IsDiskFault n (Some reason)
+by_disk_itself : (n : ℕ) (reason : OpenError) → NoneCounted n → IsFault (Some reason) → IsDiskFault n (Some reason)
 by_disk_itself n why.NotAStore none fault = fault
 by_disk_itself n (why.NewerFormat format) none fault = fault
 by_disk_itself n (why.Damaged name place) none fault = fault
@@ -34,7 +35,7 @@ by_disk_itself n why.NoMemory none fault = fault
 by_disk_itself n (why.Disk name) none fault = none
 
 -- and where the disk failed, the reader has counted none
-none_read : (n : ℕ) (reason : OpenError) → IsDiskFault n (Some reason) → n ≡ 0
+none_read : (n : ℕ) (reason : OpenError) → IsDiskFault n (Some reason) → NoneCounted n
 none_read n why.NotAStore fault = absurd fault
 none_read n (why.NewerFormat format) fault = absurd fault
 none_read n (why.Damaged name place) fault = absurd fault
@@ -51,7 +52,7 @@ fault_at_all n why.NoMemory fault = fault
 fault_at_all n (why.Disk name) fault = tt
 
 -- So the disk counts it.
-disk_cause : (before now n : ℕ) (reason : OpenError) → n ≡ 0 → HasCause before now (IsDiskFault n (Some reason))
+disk_cause : (before now n : ℕ) (reason : OpenError) → NoneCounted n → HasCause before now (IsDiskFault n (Some reason))
     → HasCause before now (IsFault (Some reason))
 disk_cause before now n reason none cause = record {
   later = cause.later;
@@ -60,37 +61,31 @@ disk_cause before now n reason none cause = record {
 }
 
 -- a reader that has counted some failed
-some_counted : (m : ℕ) → (m ≡ 0 → ⊥) → 1 ≤ m
-some_counted zero some = absurd (some refl)
-some_counted (suc m) some = omega arith
-
-reader_failed : {R : Type 0} (faults : R → ℕ) (reader : Option R) → (counted faults reader ≡ 0 → ⊥) → ReaderFailed faults
-reader_failed faults None some = absurd (some refl)
-reader_failed faults (Some reader) some = record { reader = reader; some = some_counted (faults reader) some }
-
-suc_some : (m n : ℕ) → n ≡ suc m → n ≡ 0 → ⊥
-suc_some m n is none = let never = sym is ∙ none in omega (arith, never)
+reader_failed : {R : Type 0} (faults : R → ℕ) (reader : Option R) → HasCounted (counted faults reader) → ReaderFailed faults
+reader_failed faults None some = absurd (none_counted.none some)
+reader_failed faults (Some reader) some = record { reader = reader; some = some }
 
 module _ {D R : Type 0} (g : Ghosts D) (faults : R → ℕ) (old new : D) (reader : Option R) (reason : OpenError)
     (cause : HasCause (g.faults old) (g.faults new) (IsDiskFault (counted faults reader) (Some reason)))
     (unread : (state : DiskState) (read : Image) → g.told old ≡ Some state → IsRead read state → NamesNoTable read
-    → counted faults reader ≡ 0) (unmoved : (counted faults reader ≡ 0 → ⊥) → IsAsBefore g old new) where
+    → NoneCounted (counted faults reader)) (unmoved : HasCounted (counted faults reader) → IsAsBefore g old new)
+    (sure : g.gives_steady old → NoneCounted (counted faults reader)) where
   -- the reader failed
-  at_tables : (counted faults reader ≡ 0 → ⊥) → FailsAtTables g faults old new
+  at_tables : HasCounted (counted faults reader) → FailsAtTables g faults old new
   at_tables some = record {
     reader = reader_failed faults reader some;
-    tables = λ state read told is_read none. some (unread state read told is_read none);
-    steady = cause.steady (λ fault. some (none_read (counted faults reader) reason fault));
+    gives = λ gives. (sure gives).none some;
+    tables = λ state read told is_read none. (unread state read told is_read none).none some;
+    steady = cause.steady (λ fault. (none_read (counted faults reader) reason fault).none some);
     unchanged = unmoved some;
   }
 
   -- A fault is counted, by one of the two.
   pub by_either : IsFault (Some reason) → Rose (g.faults old) (g.faults new) ⊎ FailsAtTables g faults old new
-  by_either fault = by (counted faults reader) refl
-    where
-      by : (m : ℕ) → counted faults reader ≡ m → Rose (g.faults old) (g.faults new) ⊎ FailsAtTables g faults old new
-      by zero none = inl (cause.rose (by_disk_itself (counted faults reader) reason none fault))
-      by (suc m) some = inr (at_tables (suc_some m (counted faults reader) some))
+  by_either fault = ⊎_elim
+      (λ (some : HasCounted (counted faults reader)). inr (at_tables some))
+      (λ (none : NoneCounted (counted faults reader)). inl (cause.rose (by_disk_itself (counted faults reader) reason none fault)))
+      (counted_or_not (counted faults reader))
 
   -- Where the disk counted none it was left alone.
   pub left_as_before : ((IsFault (Some reason) → ⊥) → IsAsBefore g old new) → (Rose (g.faults old) (g.faults new) → ⊥)
@@ -113,7 +108,7 @@ module _ {D R : Type 0} (g : Ghosts D) (faults : R → ℕ) (old new : D) (reade
 
   module _ {K : Type 0} (k : sink.Ghosts K) (sink sink' : K) (how : OpenError) (result : Ending) (for : EndsFor reason how)
       (finishes : FinishesBy k sink sink' (ending_unopened how) result) where
-    counted_none : counted faults reader ≡ 0 → CountsFaultsOf TheDisk (Some result) (g.faults old) (g.faults new)
+    counted_none : NoneCounted (counted faults reader) → CountsFaultsOf TheDisk (Some result) (g.faults old) (g.faults new)
     counted_none none = counts_disk k sink sink' how result finishes (g.faults old) (g.faults new) (IsFault (Some reason))
         (fault_of reason how for) (fault_for reason how for)
         (disk_cause (g.faults old) (g.faults new) (counted faults reader) reason none cause)
@@ -136,7 +131,7 @@ module _ {D R : Type 0} (g : Ghosts D) (faults : R → ℕ) (old new : D) (reade
         no_refusal name is refusal refused = no_fault refusal
             (subst (λ (w : OpenError). IsFault (Some w)) refused (subst (λ (w : OpenError). IsFault (Some w)) (sym is) tt))
 
-        at_reader : (name : Name) → reason ≡ why.Disk name → (counted faults reader ≡ 0 → ⊥)
+        at_reader : (name : Name) → reason ≡ why.Disk name → HasCounted (counted faults reader)
             → EndsAtTables g faults k old new sink sink' result
         at_reader name is some = (
           at_tables some,
@@ -148,10 +143,12 @@ module _ {D R : Type 0} (g : Ghosts D) (faults : R → ℕ) (old new : D) (reade
               for),
         )
 
-        by_count : (m : ℕ) → counted faults reader ≡ m → (name : Name) → reason ≡ why.Disk name
+        by_count : (name : Name) → reason ≡ why.Disk name
             → CountsFaultsOf TheDisk (Some result) (g.faults old) (g.faults new) ⊎ EndsAtTables g faults k old new sink sink' result
-        by_count zero none name is = inl (counted_none none)
-        by_count (suc m) some name is = inr (at_reader name is (suc_some m (counted faults reader) some))
+        by_count name is = ⊎_elim
+            (λ (some : HasCounted (counted faults reader)). inr (at_reader name is some))
+            (λ (none : NoneCounted (counted faults reader)). inl (counted_none none))
+            (counted_or_not (counted faults reader))
 
         by : (w : OpenError) → reason ≡ w
             → CountsFaultsOf TheDisk (Some result) (g.faults old) (g.faults new) ⊎ EndsAtTables g faults k old new sink sink' result
@@ -160,4 +157,4 @@ module _ {D R : Type 0} (g : Ghosts D) (faults : R → ℕ) (old new : D) (reade
         by (why.Damaged name place) is = inl (sound (λ fault. subst (λ (w : OpenError). IsFault (Some w)) is fault))
         by (why.Exhausted counter) is = inl (sound (λ fault. subst (λ (w : OpenError). IsFault (Some w)) is fault))
         by why.NoMemory is = inl (sound (λ fault. subst (λ (w : OpenError). IsFault (Some w)) is fault))
-        by (why.Disk name) is = by_count (counted faults reader) refl name is
+        by (why.Disk name) is = by_count name is

@@ -2,9 +2,10 @@
 use Rattle.std.proofs.Common.{◌≡◌, ⊎_elim, ℕ, ◌-◌, ◌^◌, ◌≤◌, List, length, None, Some, Result, Ok, Err, refl, sym, ◌∙◌, ap, subst, arith}
 use Rattle.std.specs.Prelude.{IfOk, IfErr}
 use Rattle.std.specs.FinMap.{empty, get-empty}
+use Rattle.vl_disk.specs.laws.Counting.{never_counted, none_counted}
 use Rattle.vl_disk.specs.Crash.{Image}
 use Rattle.vl_disk.specs.DiskState.{DiskState, empty_disk}
-use Rattle.vl_disk.specs.Faults.{HasCause, after_calls}
+use Rattle.vl_disk.specs.Faults.{HasCause, NoneCounted, after_calls, never}
 use Rattle.vl_disk.specs.Moments.{HoldsThroughout}
 use Rattle.vl_disk.specs.Name.{name_cmp}
 use Rattle.vl_disk.specs.Started.{IsRead, Started, started_empty, started_read}
@@ -57,14 +58,14 @@ bare_read = started_read empty empty_disk started_empty
 -- ---- readers that never fail
 
 -- an opening over readers that never fail has none that counted a fault
-pub steady_readers : {E D R : Type 0} (faults : R → ℕ) → ((reader : R) → faults reader ≡ 0) → (r : Result E (OpenFail D R))
-    → reader_faults faults r ≡ 0
-steady_readers faults never (Ok engine) = refl
-steady_readers {R} faults never (Err fail) = of fail.reader
+pub steady_readers : {E D R : Type 0} (faults : R → ℕ) → ((reader : R) → faults reader ≡ never) → (r : Result E (OpenFail D R))
+    → NoneCounted (reader_faults faults r)
+steady_readers faults sure (Ok engine) = none_counted
+steady_readers {R} faults sure (Err fail) = of fail.reader
   where
-    of : (reader : Maybe R) → counted faults reader ≡ 0
-    of None = refl
-    of (Some reader) = never reader
+    of : (reader : Maybe R) → NoneCounted (counted faults reader)
+    of None = none_counted
+    of (Some reader) = subst NoneCounted (sym (sure reader)) never_counted
 
 -- ---- the first opening
 
@@ -90,7 +91,7 @@ module _ (stop : ℕ) (disk : StoppingDisk) (is : state_on disk ≡ empty_disk) 
   pub opened : {Held Reader Writer : Type 0} {watched : _} {held : _} {cloned : _} {read : _} {write : _}
       {R : Type 0} (faults : R → ℕ)
       (r : Result (Replayer StoppingDisk Held Reader Writer watched held cloned read write) (OpenFail StoppingDisk R))
-      → reader_faults faults r ≡ 0 → HasCause (faults_on disk) (faults_on (disk_behind r)) (IsDiskFault (reader_faults faults r) (why_of r))
+      → NoneCounted (reader_faults faults r) → HasCause (faults_on disk) (faults_on (disk_behind r)) (IsDiskFault (reader_faults faults r) (why_of r))
       → HoldsThroughout memory.ghosts disk (disk_behind r) (IsMeanwhile empty empty_disk)
       → (writers : Writers Writer) (bytes : Held → Maybe (List ℕ))
       → IfOk r (λ replayer. StandsFor memory.ghosts writers bytes replayer begun)
@@ -112,7 +113,7 @@ module _ (stop : ℕ) (disk : StoppingDisk) (is : state_on disk ≡ empty_disk) 
   pub stopped : {Held Reader Writer : Type 0} {watched : _} {held : _} {cloned : _} {read : _} {write : _}
       {R : Type 0} (faults : R → ℕ)
       (r : Result (Replayer StoppingDisk Held Reader Writer watched held cloned read write) (OpenFail StoppingDisk R))
-      → reader_faults faults r ≡ 0 → HasCause (faults_on disk) (faults_on (disk_behind r)) (IsDiskFault (reader_faults faults r) (why_of r))
+      → NoneCounted (reader_faults faults r) → HasCause (faults_on disk) (faults_on (disk_behind r)) (IsDiskFault (reader_faults faults r) (why_of r))
       → HoldsThroughout memory.ghosts disk (disk_behind r) (IsMeanwhile empty empty_disk)
       → AnswersOpening empty (why_of r) → calls_on (disk_behind r) ≤ begun.calls
       → IfErr r (λ fail. StopsOpening stop fail.why fail.disk)
@@ -135,7 +136,7 @@ module _ (stop : ℕ) (disk : StoppingDisk) (is : state_on disk ≡ empty_disk) 
           let exactly = (counted_past fail.disk.disk (Some stop) (meanwhile.time.as_planned (Some stop) past)).exactly
           (omega (arith, few)) in
           let rose = by.rose unread in (
-            omega (arith, exactly, few, rose, sound),
+            omega (arith, exactly, few, rose.more, sound),
             λ o. subst (λ (h : History). Reopens (crash_image o (state_on fail.disk)) h (last_number h)) (sym no_commits)
                 (opening_reopens empty bare_read (state_on fail.disk)
                 (meanwhile.each (state_on fail.disk)

@@ -3,7 +3,7 @@ ghost use Rattle.std.specs.Prelude.{◌≡◌, None, OnOk};
 ghost use Rattle.vl_engine_model.specs.Store.Reading.{a_transaction, a_view, begin_as};
 ghost use Rattle.vl_engine_model.specs.Store.Things.{thing_of};
 ghost use Rattle.vl_replay_laws.specs.Replaying.{MakesStep, OnlyNoMemory};
-ghost use Rattle.vl_replay.specs.Served.{RemovesIn, ServesFor};
+ghost use Rattle.vl_replay.specs.Served.{IsUnfailing, ReadSurely, RemovesIn, ServesFor};
 ghost use Rattle.vl_script_model.specs.Sequential.{State};
 
 use crate::replayer::Served;
@@ -23,6 +23,9 @@ impl<D: Disk> Served<D> {
         ensures removes { (s : State) → ServesFor D.Watched D.Held.bytes self.old s → thing_of s.store name ≡ None
             → RemovesIn self.old s.store
             → OnOk result (RemovesIn self.new (begin_as s.store name a_transaction (thing_of s.store name)).state) }
+        // Where nothing fails beside the disk it begins to read so.
+        ensures sure { (s : State) → ServesFor D.Watched D.Held.bytes self.old s → thing_of s.store name ≡ None
+            → IsUnfailing D.Watched D.Reader.faults self.old → OnOk result (ReadSurely D.Reader.faults self.new) }
         ensures disk { self.new.engine.disk ≡ self.old.engine.disk }
         ensures merging { self.new.engine.merging ≡ self.old.engine.merging }
         ensures collecting { self.new.engine.collecting ≡ self.old.engine.collecting }
@@ -48,6 +51,8 @@ impl<D: Disk> Served<D> {
         ensures removes { (s : State) → ServesFor D.Watched D.Held.bytes self.old s → thing_of s.store name ≡ None
             → RemovesIn self.old s.store
             → OnOk result (RemovesIn self.new (begin_as s.store name a_view (thing_of s.store name)).state) }
+        ensures sure { (s : State) → ServesFor D.Watched D.Held.bytes self.old s → thing_of s.store name ≡ None
+            → IsUnfailing D.Watched D.Reader.faults self.old → OnOk result (ReadSurely D.Reader.faults self.new) }
         ensures disk { self.new.engine.disk ≡ self.old.engine.disk }
         ensures merging { self.new.engine.merging ≡ self.old.engine.merging }
         ensures collecting { self.new.engine.collecting ≡ self.old.engine.collecting }

@@ -12,12 +12,12 @@ ghost use Rattle.vl_engine_model.specs.Store.Dispatch.{batch_by, drop_by, move_b
 ghost use Rattle.vl_engine_model.specs.Store.Lines as store_lines;
 ghost use Rattle.vl_engine_model.specs.Store.Things.{thing_of};
 ghost use Rattle.vl_script_model.specs.Durable.{CarriesOut};
-ghost use Rattle.vl_script_model.specs.Failing.{MovesRecords, ReaderFailed, SeeksRecords};
+ghost use Rattle.vl_script_model.specs.Failing.{FailsBeside, MovesRecords, SeeksRecords};
 ghost use Rattle.vl_script_model.specs.Halts.{HaltsByDamage, HaltsByDisk, HaltsByRead, HaltsByReader};
 ghost use Rattle.vl_replay.specs.Handed.{CanHandIn, KeepsLent};
 ghost use Rattle.vl_replay_laws.specs.Passing.{PassesIn, TakesPass, halt_at};
 ghost use Rattle.vl_replay_laws.specs.Replaying.{MakesStep, MergesIn, OnlyNoMemory, state_by};
-ghost use Rattle.vl_replay.specs.Served.{RemovesIn, ServesFor, StandsPassing, StandsWith};
+ghost use Rattle.vl_replay.specs.Served.{ReadSurely, RemovesIn, ServesFor, StandsPassing, StandsWith};
 ghost use Rattle.vl_replay.specs.AsCalled.{AnswersBatch, AnswersMove};
 ghost use Rattle.vl_script_model.specs.Sequential.{State, segment_line};
 ghost use Rattle.vl_script_model.specs.Stored.{IsStopped, IsStored};
@@ -105,6 +105,7 @@ pub(super) fn pick<D: Disk>(
     ensures carries { (s : State) → StandsPassing D.Watched D.Held.bytes served.old passing.old s → thing_of s.store name ≡ None
         → CarriesOut D.Watched IsStored Shown IsStopped served.old.engine.disk served.new.engine.disk s
         (state_by s (pick_as s.store name percent (thing_of s.store name))) result }
+    ensures things { served.new.opens ≡ served.old.opens }
     ensures fails { OnlyNoMemory result }
     ensures disk { served.new.engine.disk ≡ served.old.engine.disk }
     ensures merging { served.new.engine.merging ≡ served.old.engine.merging }
@@ -141,7 +142,7 @@ pub(super) fn batch<D: Disk>(
     ensures sound { (s : State) → StandsPassing D.Watched D.Held.bytes served.now passing.old s → HaltsByRead result
         → SeeksRecords (thing_of s.store name) }
     ensures undamaged { (s : State) → StandsPassing D.Watched D.Held.bytes served.now passing.old s → HaltsByDamage result → ⊥ }
-    ensures fault { HaltsByReader result → ReaderFailed D.Reader.faults }
+    ensures fault { HaltsByReader result → FailsBeside (D.gives_steady served.now.engine.disk) D.Reader.faults }
     ensures not_the_disk { HaltsByDisk result → ⊥ }
     // Whatever the disk holds, it is answered what the pass gave.
     ensures as_called { AnswersBatch D.Held.bytes passing.old name result }
@@ -205,13 +206,15 @@ pub(super) fn move_batch<D: Disk>(
         → MovesRecords (thing_of s.store name) }
     ensures undamaged { (s : State) → StandsPassing D.Watched D.Held.bytes served.old passing.old s → HaltsByDamage result → ⊥ }
     ensures fault { (s : State) → StandsPassing D.Watched D.Held.bytes served.old passing.old s
-        → HaltsByReader result → ReaderFailed D.Reader.faults }
+        → HaltsByReader result → FailsBeside (D.gives_steady served.old.engine.disk) D.Reader.faults }
+    ensures things { served.new.opens ≡ served.old.opens }
     ensures cause { HasCause (D.faults served.old.engine.disk) (D.faults served.new.engine.disk) (HaltsByDisk result) }
     ensures named { (s : State) (file : Name) → StandsPassing D.Watched D.Held.bytes served.old passing.old s
         → result ≡ Err (halts.Disk file) → file ≡ names.Log s.store.layout.active.number }
     // A merge that is open is told of what was moved, and else stays.
     ensures merging { KeepsLent served.old.engine.merging served.new.engine.merging }
     ensures untold { OnOk result (StaysUntold (D.told served.old.engine.disk) (D.told served.new.engine.disk)) }
+    ensures steady { D.gives_steady served.old.engine.disk → D.gives_steady served.new.engine.disk }
     // Whatever the disk holds, it is answered what the move came to.
     ensures as_called { AnswersMove D.Watched D.Held.bytes passing.old (λ r. D.Reader.faults r)
         (at served.old.engine.disk served.old.engine.core served.old.engine.merging)
@@ -277,6 +280,8 @@ pub(super) fn end<D: Disk>(
     ensures carries { (s : State) → StandsWith D.Watched D.Writer.Writer D.Held.bytes served.old planned.old passing.old s
         → CarriesOut D.Watched IsStored Shown IsStopped served.old.engine.disk served.new.engine.disk s
         (state_by s (drop_by s.store name (thing_of s.store name))) (Ok result) }
+    ensures sure { (s : State) → StandsWith D.Watched D.Writer.Writer D.Held.bytes served.old planned.old passing.old s
+        → ReadSurely D.Reader.faults served.old → ReadSurely D.Reader.faults served.new }
     ensures disk { served.new.engine.disk ≡ served.old.engine.disk }
     ensures handed { CanHandIn D.Watched D.Writer.Writer served.new.engine.disk served.new.engine.merging planned.new }
 {

@@ -10,7 +10,7 @@ ghost use Rattle.vl_engine_model.specs.Store.Things.{thing_of};
 ghost use Rattle.vl_script_model.specs.Durable.{CarriesOut};
 ghost use Rattle.vl_script_model.specs.Halts.{HaltsByDisk, HaltsByRead, ReadsWell};
 ghost use Rattle.vl_replay_laws.specs.Replaying.{MakesStep, state_by};
-ghost use Rattle.vl_replay.specs.Served.{RemovesIn, ServesFor};
+ghost use Rattle.vl_replay.specs.Served.{ReadSurely, RemovesIn, ServesFor};
 ghost use Rattle.vl_script_model.specs.Sequential.{State};
 ghost use Rattle.vl_script_model.specs.Stored.{IsStopped, IsStored};
 ghost use Rattle.vl_script_model.specs.declared.fails.Halt.TheVariants as halts;
@@ -40,10 +40,13 @@ impl<D: Disk> Served<D> {
             → result ≡ Err (halts.Disk file) → file ≡ names.Log s.store.layout.active.number }
         ensures removes { (s : State) → ServesFor D.Watched D.Held.bytes self.old s → RemovesIn self.old s.store
             → OnOk result (RemovesIn self.new (commit_by s.store name (thing_of s.store name)).state) }
+        ensures sure { (s : State) → ServesFor D.Watched D.Held.bytes self.old s
+            → ReadSurely D.Reader.faults self.old → OnOk result (ReadSurely D.Reader.faults self.new) }
         ensures merging { self.new.engine.merging ≡ self.old.engine.merging }
         ensures collecting { self.new.engine.collecting ≡ self.old.engine.collecting }
         ensures logs { self.new.engine.core.version.behind.logs ≡ self.old.engine.core.version.behind.logs }
         ensures untold { OnOk result (StaysUntold (D.told self.old.engine.disk) (D.told self.new.engine.disk)) }
+        ensures steady { D.gives_steady self.old.engine.disk → D.gives_steady self.new.engine.disk }
     {
         match take_out(&mut self.opens, name.as_slice()) {
             None => Ok(Answer::Unknown { name }),

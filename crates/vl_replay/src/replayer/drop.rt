@@ -4,7 +4,7 @@ ghost use Rattle.vl_engine_model.specs.Store.Dispatch.{drop_by};
 ghost use Rattle.vl_engine_model.specs.Store.Things.{thing_of};
 ghost use Rattle.vl_replay_laws.specs.Passing.{NamesNoPass};
 ghost use Rattle.vl_replay_laws.specs.Replaying.{MakesStep, NamesNoMerge};
-ghost use Rattle.vl_replay.specs.Served.{RemovesIn, ServesFor};
+ghost use Rattle.vl_replay.specs.Served.{ReadSurely, RemovesIn, ServesFor};
 ghost use Rattle.vl_script_model.specs.Sequential.{State};
 
 use crate::replayer::Served;
@@ -22,6 +22,8 @@ impl<D: Disk> Served<D> {
         ensures removes { (s : State) → ServesFor D.Watched D.Held.bytes self.old s
             → NamesNoMerge name s → NamesNoPass name s → RemovesIn self.old s.store
             → RemovesIn self.new (drop_by s.store name (thing_of s.store name)).state }
+        ensures sure { (s : State) → ServesFor D.Watched D.Held.bytes self.old s
+            → ReadSurely D.Reader.faults self.old → ReadSurely D.Reader.faults self.new }
         ensures disk { self.new.engine.disk ≡ self.old.engine.disk }
         ensures merging { self.new.engine.merging ≡ self.old.engine.merging }
         ensures collecting { self.new.engine.collecting ≡ self.old.engine.collecting }

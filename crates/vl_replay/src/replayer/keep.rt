@@ -34,6 +34,7 @@ impl<D: Disk> Served<D> {
         ensures sound { (s : State) → ServesFor D.Watched D.Held.bytes self.old s → HaltsByRead result → ⊥ }
         // It reads nothing.
         ensures reads_well { ReadsWell result }
+        ensures things { self.new.opens ≡ self.old.opens }
         ensures cause { HasCause (D.faults self.old.engine.disk) (D.faults self.new.engine.disk) (HaltsByDisk result) }
         ensures named { (file : Name) → result ≡ Err (halts.Disk file)
             → file ≡ names.Manifest self.old.engine.core.back.manifest.number }
@@ -43,6 +44,7 @@ impl<D: Disk> Served<D> {
         ensures collecting { self.new.engine.collecting ≡ self.old.engine.collecting }
         ensures logs { self.new.engine.core.version.behind.logs ≡ self.old.engine.core.version.behind.logs }
         ensures untold { OnOk result (StaysUntold (D.told self.old.engine.disk) (D.told self.new.engine.disk)) }
+        ensures steady { D.gives_steady self.old.engine.disk → D.gives_steady self.new.engine.disk }
     {
         keep_answer(self.engine.keep(versions))
     }

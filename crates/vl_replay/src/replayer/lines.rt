@@ -7,13 +7,13 @@ ghost use Rattle.vl_disk.specs.declared.name.Name.{Name};
 ghost use Rattle.vl_script_model.specs.Asking.{AsksForRow};
 ghost use Rattle.vl_engine_laws.specs.Shown.{Shown};
 ghost use Rattle.vl_script_model.specs.Durable.{CarriesOut};
-ghost use Rattle.vl_script_model.specs.Failing.{FailsAt, ReaderFailed, ReadsTables, beside};
+ghost use Rattle.vl_script_model.specs.Failing.{FailsAt, FailsBeside, ReadsTables, beside};
 ghost use Rattle.vl_script_model.specs.Halts.{HaltsByDamage, HaltsByDisk, HaltsByRead, HaltsByReader};
 ghost use Rattle.vl_replay.specs.AsCalled.{AnswersAsCalled, AnswersLine};
 ghost use Rattle.vl_replay.specs.Handed.{CanHandIn};
 ghost use Rattle.vl_replay_laws.specs.Passing.{PassesIn, TellsUsed, name_made};
 ghost use Rattle.vl_replay_laws.specs.Replaying.{MakesStep, MergesIn};
-ghost use Rattle.vl_replay.specs.Served.{RemovesIn, StandsFor, StandsWith, TakesLines, disk_of};
+ghost use Rattle.vl_replay.specs.Served.{IsUnfailing, RemovesIn, StandsFor, StandsWith, TakesLines, disk_of};
 ghost use Rattle.vl_script_model.specs.Sequential.{IsPrinted, State, answer_to, state_after, step_to};
 ghost use Rattle.vl_replay_laws.specs.Standing.{open_in};
 ghost use Rattle.vl_script_model.specs.Stored.{IsStopped, IsStored};
@@ -65,7 +65,12 @@ impl<D: Disk> Replayer<D> {
         ensures undamaged { TakesLines self.old → (s : State) → StandsFor D.Watched D.Writer.Writer D.Held.bytes self.old s
             → HaltsByDamage result → ⊥ }
         ensures fault { TakesLines self.old → (s : State) → StandsFor D.Watched D.Writer.Writer D.Held.bytes self.old s
-            → HaltsByReader result → ReaderFailed (beside D.Reader.faults D.Writer.faults) }
+            → HaltsByReader result → FailsBeside (IsUnfailing D.Watched D.Reader.faults self.old.served)
+            (beside D.Reader.faults D.Writer.faults) }
+        // Where nothing is to fail beside the disk, nothing is behind it.
+        ensures sure { TakesLines self.old → (s : State) → StandsFor D.Watched D.Writer.Writer D.Held.bytes self.old s
+            → IsUnfailing D.Watched D.Reader.faults self.old.served
+            → OnOk result (IsUnfailing D.Watched D.Reader.faults self.new.served) }
         ensures cause { TakesLines self.old
             → HasCause (D.faults (disk_of self.old)) (D.faults (disk_of self.new)) (HaltsByDisk result) }
         ensures named { (s : State) (name : Name) → TakesLines self.old → StandsFor D.Watched D.Writer.Writer D.Held.bytes self.old s
@@ -194,7 +199,10 @@ fn carry_out<D: Disk>(
     ensures undamaged { (s : State) → StandsWith D.Watched D.Writer.Writer D.Held.bytes served.old planned.old passing.old s
         → HaltsByDamage result → ⊥ }
     ensures fault { (s : State) → StandsWith D.Watched D.Writer.Writer D.Held.bytes served.old planned.old passing.old s
-        → HaltsByReader result → ReaderFailed (beside D.Reader.faults D.Writer.faults) }
+        → HaltsByReader result → FailsBeside (IsUnfailing D.Watched D.Reader.faults served.old)
+        (beside D.Reader.faults D.Writer.faults) }
+    ensures sure { (s : State) → StandsWith D.Watched D.Writer.Writer D.Held.bytes served.old planned.old passing.old s
+        → IsUnfailing D.Watched D.Reader.faults served.old → OnOk result (IsUnfailing D.Watched D.Reader.faults served.new) }
     ensures cause { HasCause (D.faults served.old.engine.disk) (D.faults served.new.engine.disk) (HaltsByDisk result) }
     ensures named { (s : State) (name : Name) → StandsWith D.Watched D.Writer.Writer D.Held.bytes served.old planned.old passing.old s
         → result ≡ Err (halts.Disk name) → FailsAt served.old.engine.core.back.manifest.number line s name }

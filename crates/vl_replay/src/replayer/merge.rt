@@ -21,13 +21,13 @@ ghost use Rattle.vl_engine_model.specs.declared.layout.Layout.{Layout};
 ghost use Rattle.vl_model.specs.History.{History};
 ghost use Rattle.vl_replay_laws.specs.Choosing.{chosen, line_for};
 ghost use Rattle.vl_script_model.specs.Durable.{CarriesOut};
-ghost use Rattle.vl_script_model.specs.Failing.{FailsAt, HasTables, ReaderFailed, beside};
+ghost use Rattle.vl_script_model.specs.Failing.{FailsAt, FailsBeside, HasTables, beside};
 ghost use Rattle.vl_script_model.specs.Halts.{HaltsByDamage, HaltsByDisk, HaltsByRead, HaltsByReader, ReadsWell};
 ghost use Rattle.vl_replay.specs.AsCalled.{AnswersPlan, can_merge};
 ghost use Rattle.vl_replay.specs.Handed.{CanHandIn};
 ghost use Rattle.vl_replay_laws.specs.Passing.{NamesNoPass};
 ghost use Rattle.vl_replay_laws.specs.Replaying.{MakesStep, MergesIn, TakesPlanned, state_by};
-ghost use Rattle.vl_replay.specs.Served.{RemovesIn, StandsMerging};
+ghost use Rattle.vl_replay.specs.Served.{ReadSurely, RemovesIn, StandsMerging};
 ghost use Rattle.vl_script_model.specs.Sequential.{State, state_after, step_to};
 ghost use Rattle.vl_script_model.specs.Stored.{IsStopped, IsStored};
 ghost use Rattle.vl_script_model.specs.declared.fails.Halt.TheVariants as halts;
@@ -89,6 +89,8 @@ pub(super) fn end<D: Disk>(
     ensures carries { (s : State) → StandsMerging D.Watched D.Writer.Writer D.Held.bytes served.old planned.old s → NamesNoPass name s
         → CarriesOut D.Watched IsStored Shown IsStopped served.old.engine.disk served.new.engine.disk s
         (state_by s (drop_by s.store name (thing_of s.store name))) (Ok result) }
+    ensures sure { (s : State) → StandsMerging D.Watched D.Writer.Writer D.Held.bytes served.old planned.old s
+        → ReadSurely D.Reader.faults served.old → ReadSurely D.Reader.faults served.new }
     ensures collecting { served.new.engine.collecting ≡ served.old.engine.collecting }
     ensures logs { served.new.engine.core.version.behind.logs ≡ served.old.engine.core.version.behind.logs }
     ensures disk { served.new.engine.disk ≡ served.old.engine.disk }
@@ -136,7 +138,10 @@ pub(super) fn plan<D: Disk>(
         → thing_of s.store name ≡ None
         → HaltsByDamage result → ⊥ }
     ensures fault { (s : State) → StandsMerging D.Watched D.Writer.Writer D.Held.bytes served.old planned.old s
-        → HaltsByReader result → ReaderFailed (beside D.Reader.faults D.Writer.faults) }
+        → HaltsByReader result
+        → FailsBeside (D.gives_steady served.old.engine.disk) (beside D.Reader.faults D.Writer.faults) }
+    ensures things { served.new.opens ≡ served.old.opens }
+    ensures steady { D.gives_steady served.old.engine.disk → D.gives_steady served.new.engine.disk }
     ensures cause { HasCause (D.faults served.old.engine.disk) (D.faults served.new.engine.disk) (HaltsByDisk result) }
     ensures named { (s : State) (file : Name) → StandsMerging D.Watched D.Writer.Writer D.Held.bytes served.old planned.old s
         → thing_of s.store name ≡ None
@@ -229,6 +234,8 @@ pub(super) fn install<D: Disk>(
     ensures sound { (s : State) → StandsMerging D.Watched D.Writer.Writer D.Held.bytes served.old planned.old s → HaltsByRead result → ⊥ }
     // It reads nothing.
     ensures reads_well { ReadsWell result }
+    ensures things { served.new.opens ≡ served.old.opens }
+    ensures steady { D.gives_steady served.old.engine.disk → D.gives_steady served.new.engine.disk }
     ensures cause { HasCause (D.faults served.old.engine.disk) (D.faults served.new.engine.disk) (HaltsByDisk result) }
     ensures named { (s : State) (file : Name) → StandsMerging D.Watched D.Writer.Writer D.Held.bytes served.old planned.old s
         → result ≡ Err (halts.Disk file) → FailsAt served.old.engine.core.back.manifest.number (lines.Install name) s file }

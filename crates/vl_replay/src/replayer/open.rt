@@ -2,7 +2,7 @@
 ghost use Rattle.std.specs.Prelude.{◌≡◌, ◌≤◌, ◌^◌, ◌-◌, IfErr, IfOk, IsErr, IsTrue, Some};
 ghost use Rattle.vl_disk.specs.Crash.{Image};
 ghost use Rattle.vl_disk.specs.DiskState.{DiskState};
-ghost use Rattle.vl_disk.specs.Faults.{HasCause};
+ghost use Rattle.vl_disk.specs.Faults.{HasCause, HasCounted, NoneCounted};
 ghost use Rattle.vl_disk.specs.Moments.{HoldsThroughout};
 ghost use Rattle.vl_disk.specs.Started.{IsRead};
 ghost use Rattle.vl_engine.specs.Opening.{AnswersOpening, IsDiskFault, IsFault, reader_faults, why_of};
@@ -15,7 +15,7 @@ ghost use Rattle.vl_recover.specs.opening.Results.{recovery_by};
 ghost use Rattle.vl_script_model.specs.Durable.{CrashesShow, HoldsState, IsAsBefore, StillTells, Tells};
 ghost use Rattle.vl_script_model.specs.Opening.{IsRefused};
 ghost use Rattle.vl_replay.specs.Opened.{disk_behind};
-ghost use Rattle.vl_replay.specs.Served.{StandsFor, TakesLines, disk_of};
+ghost use Rattle.vl_replay.specs.Served.{IsUnfailing, StandsFor, TakesLines, disk_of};
 ghost use Rattle.vl_script_model.specs.Sequential.{State, history_of};
 ghost use Rattle.vl_script_model.specs.Start.{StartsIn};
 ghost use Rattle.vl_script_model.specs.Stored.{IsStored};
@@ -58,8 +58,12 @@ impl<D: Disk> Replayer<D> {
         ensures cause { HasCause (D.faults disk) (D.faults (disk_behind result))
             (IsDiskFault (reader_faults D.Reader.faults result) (why_of result)) }
         ensures unread { (state : DiskState) (read : Image) → D.told disk ≡ Some state → IsRead read state
-            → NamesNoTable read → reader_faults D.Reader.faults result ≡ 0 }
-        ensures unmoved { (reader_faults D.Reader.faults result ≡ 0 → ⊥) → IsAsBefore D.Watched disk (disk_behind result) }
+            → NamesNoTable read → NoneCounted (reader_faults D.Reader.faults result) }
+        ensures steady { D.gives_steady disk → NoneCounted (reader_faults D.Reader.faults result) }
+        // Where nothing fails beside the disk, nothing does beside what was opened.
+        ensures unfailing { (s : State) → StartsIn D.Watched disk s → D.gives_steady disk
+            → IfOk result (λ replayer. IsUnfailing D.Watched D.Reader.faults replayer.served) }
+        ensures unmoved { HasCounted (reader_faults D.Reader.faults result) → IsAsBefore D.Watched disk (disk_behind result) }
 
         // A fault is named by the file at which it came.
         ensures at { (state : DiskState) (read : Image) → D.told disk ≡ Some state → IsRead read state

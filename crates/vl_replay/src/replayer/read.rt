@@ -2,11 +2,11 @@
 ghost use Rattle.std.specs.Prelude.{◌≡◌, ◌≤◌};
 ghost use Rattle.vl_engine_model.specs.Store.Reading.{get_at_by, get_by, scan_by};
 ghost use Rattle.vl_engine_model.specs.Store.Things.{thing_of};
-ghost use Rattle.vl_script_model.specs.Failing.{ReaderFailed};
+ghost use Rattle.vl_script_model.specs.Failing.{FailsBeside};
 ghost use Rattle.vl_script_model.specs.Halts.{HaltsByDamage, HaltsByDisk, HaltsByReader};
 ghost use Rattle.vl_script_model.specs.Readers.{IsWithoutTables};
 ghost use Rattle.vl_replay_laws.specs.Replaying.{MakesStep, OnlyNoMemory};
-ghost use Rattle.vl_replay.specs.Served.{ServesFor};
+ghost use Rattle.vl_replay.specs.Served.{ReadSurely, ServesFor};
 ghost use Rattle.vl_replay.specs.AsCalled.{AnswersGet, AnswersPast, AnswersScan};
 ghost use Rattle.vl_script_model.specs.Sequential.{State};
 ghost use Rattle.vl_replay_laws.specs.Standing.{open_in, tell_of, read_answer, past_answer, value_answer};
@@ -28,7 +28,9 @@ impl<D: Disk> Served<D> {
             (get_by s.store name (tell_of with_tag) key (thing_of s.store name)) result }
         ensures near { (s : State) → ServesFor D.Watched D.Held.bytes self.old s → IsWithoutTables s.store.layout → OnlyNoMemory result }
         ensures undamaged { (s : State) → ServesFor D.Watched D.Held.bytes self.old s → HaltsByDamage result → ⊥ }
-        ensures fault { HaltsByReader result → ReaderFailed D.Reader.faults }
+        ensures fault { HaltsByReader result → FailsBeside (ReadSurely D.Reader.faults self.old) D.Reader.faults }
+        ensures sure { (s : State) → ServesFor D.Watched D.Held.bytes self.old s
+            → ReadSurely D.Reader.faults self.old → ReadSurely D.Reader.faults self.new }
         ensures not_the_disk { HaltsByDisk result → ⊥ }
         // Whatever the disk holds, it is answered what the read gave.
         ensures as_called { AnswersGet D.Held.bytes (open_in self.old.opens.items name) (open_in self.new.opens.items name)
@@ -51,7 +53,9 @@ impl<D: Disk> Served<D> {
             (get_at_by s.store name key number (thing_of s.store name)) result }
         ensures near { (s : State) → ServesFor D.Watched D.Held.bytes self.old s → IsWithoutTables s.store.layout → OnlyNoMemory result }
         ensures undamaged { (s : State) → ServesFor D.Watched D.Held.bytes self.old s → HaltsByDamage result → ⊥ }
-        ensures fault { HaltsByReader result → ReaderFailed D.Reader.faults }
+        ensures fault { HaltsByReader result → FailsBeside (ReadSurely D.Reader.faults self.old) D.Reader.faults }
+        ensures sure { (s : State) → ServesFor D.Watched D.Held.bytes self.old s
+            → ReadSurely D.Reader.faults self.old → ReadSurely D.Reader.faults self.new }
         ensures not_the_disk { HaltsByDisk result → ⊥ }
         // Whatever the disk holds, it is answered what the read gave.
         ensures as_called { AnswersPast D.Held.bytes (open_in self.old.opens.items name) (open_in self.new.opens.items name)
@@ -82,7 +86,9 @@ impl<D: Disk> Served<D> {
             (scan_by s.store way name low high limit (thing_of s.store name)) result }
         ensures near { (s : State) → ServesFor D.Watched D.Held.bytes self.old s → IsWithoutTables s.store.layout → OnlyNoMemory result }
         ensures undamaged { (s : State) → ServesFor D.Watched D.Held.bytes self.old s → HaltsByDamage result → ⊥ }
-        ensures fault { HaltsByReader result → ReaderFailed D.Reader.faults }
+        ensures fault { HaltsByReader result → FailsBeside (ReadSurely D.Reader.faults self.old) D.Reader.faults }
+        ensures sure { (s : State) → ServesFor D.Watched D.Held.bytes self.old s
+            → ReadSurely D.Reader.faults self.old → ReadSurely D.Reader.faults self.new }
         ensures not_the_disk { HaltsByDisk result → ⊥ }
         // Whatever the disk holds, it is answered what the scan gave.
         ensures as_called { AnswersScan D.Held.bytes (open_in self.old.opens.items name) (open_in self.new.opens.items name)

@@ -34,6 +34,7 @@ impl<D: Disk> Served<D> {
         ensures sound { (s : State) → ServesFor D.Watched D.Held.bytes self.old s → HaltsByRead result → ⊥ }
         // It reads nothing.
         ensures reads_well { ReadsWell result }
+        ensures things { self.new.opens ≡ self.old.opens }
         ensures cause { HasCause (D.faults self.old.engine.disk) (D.faults self.new.engine.disk) (HaltsByDisk result) }
         ensures named { (s : State) (file : Name) → ServesFor D.Watched D.Held.bytes self.old s
             → result ≡ Err (halts.Disk file)
@@ -45,6 +46,7 @@ impl<D: Disk> Served<D> {
         ensures removes { (s : State) → StandsRemoving D.Watched D.Held.bytes self.old s
             → OnOk result (RemovesIn self.new (step_by s.store (rotate_ruling s.store.layout (history_of s))).state) }
         ensures untold { OnOk result (StaysUntold (D.told self.old.engine.disk) (D.told self.new.engine.disk)) }
+        ensures steady { D.gives_steady self.old.engine.disk → D.gives_steady self.new.engine.disk }
     {
         step_answer(self.engine.rotate())
     }

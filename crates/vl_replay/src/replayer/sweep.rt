@@ -41,11 +41,13 @@ impl<D: Disk> Served<D> {
         ensures sound { (s : State) → StandsRemoving D.Watched D.Held.bytes self.old s → HaltsByRead result → ⊥ }
         // It reads nothing.
         ensures reads_well { ReadsWell result }
+        ensures things { self.new.opens ≡ self.old.opens }
         ensures cause { HasCause (D.faults self.old.engine.disk) (D.faults self.new.engine.disk) (HaltsByDisk result) }
         ensures named { (s : State) (file : Name) → StandsRemoving D.Watched D.Held.bytes self.old s
             → result ≡ Err (halts.Disk file) → is_in (file_of file) (swept None s.store.layout) ≡ true }
         ensures merging { self.new.engine.merging ≡ self.old.engine.merging }
         ensures untold { OnOk result (StaysUntold (D.told self.old.engine.disk) (D.told self.new.engine.disk)) }
+        ensures steady { D.gives_steady self.old.engine.disk → D.gives_steady self.new.engine.disk }
     {
         sweep_answer(self.engine.sweep())
     }

@@ -7,7 +7,7 @@ ghost use Rattle.vl_engine_model.specs.Store.Things.{thing_of};
 ghost use Rattle.vl_model.specs.History.{History};
 ghost use Rattle.vl_model.specs.Reads.{Read};
 ghost use Rattle.vl_replay_laws.specs.Replaying.{MakesStep, OnlyNoMemory};
-ghost use Rattle.vl_replay.specs.Served.{ServesFor};
+ghost use Rattle.vl_replay.specs.Served.{ReadSurely, ServesFor};
 ghost use Rattle.vl_script_model.specs.Sequential.{State};
 ghost use Rattle.vl_replay_laws.specs.Standing.{change_of, write_answer};
 ghost use Rattle.vl_txn.specs.Refusals.{IsWritten};
@@ -32,6 +32,8 @@ impl<D: Disk> Served<D> {
             → MakesStep D.Held.bytes (D.told self.new.engine.disk) self.new.engine.core self.new.opens.items s
             (write_by s.store name key (change_of value) (thing_of s.store name)) result }
         ensures fails { OnlyNoMemory result }
+        ensures sure { (s : State) → ServesFor D.Watched D.Held.bytes self.old s
+            → ReadSurely D.Reader.faults self.old → ReadSurely D.Reader.faults self.new }
         ensures engine { self.new.engine ≡ self.old.engine }
     {
         let Some(at) = place(&self.opens, name.as_slice()) else {

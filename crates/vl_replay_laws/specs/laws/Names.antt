@@ -20,3 +20,4 @@ pub mod Returning
 pub mod PastMaking
 pub mod Placing
 pub mod Halts
+pub mod Unfailing

@@ -2,6 +2,7 @@
 use Rattle.std.proofs.Common.{◌≡◌, ◌⊎◌, ⊎_elim, inl, inr, ℕ, zero, suc, ◌≤◌, List, [], ◌∷◌, take, Option, None, Some}
 use Rattle.std.proofs.Common.{IsTrue, refl, ap, sym, ◌∙◌, subst, arith}
 use Rattle.std.specs.Option.{option_map}
+use Rattle.vl_disk.specs.laws.Counting.{rose_since}
 use Rattle.vl_model.specs.History.{Extends, History, last_number}
 use Rattle.vl_disk.specs.declared.watched.Watched.{Ghosts}
 use Rattle.vl_disk.specs.Faults.{Rose}
@@ -107,7 +108,7 @@ pub own_commits : {D : Type 0} (g : Ghosts D) (holds : Holding) (s most : State)
 own_commits g holds s most disk held = counted_commits g holds s most disk (s, refl, refl, refl, refl, held)
 
 pub rose_earlier : (f a b : ℕ) → f ≤ a → Rose a b → Rose f b
-rose_earlier f a b le rose = omega arith
+rose_earlier f a b le rose = rose_since f a b le rose
 
 module _ {D : Type 0} (g : Ghosts D) (watched : IsWatched g) (holds : Holding) (shows : Showing) (stops : Stopping)
     (stays : StaysShown shows) (exactly : LeavesItsHistory holds shows) where

@@ -175,7 +175,7 @@ module _ (stop : ℕ) (small : stop < 2 ^ 32) (input : List ℕ) (stands : State
     module _ (stops : StopsWithin memory.ghosts IsStopped last most old.disk new.disk)
         (rose : Rose (faults_on old.disk) (faults_on new.disk)) where
       failed : 1 ≤ faults_on new.disk
-      failed = omega (arith, rose, trial.sound)
+      failed = omega (arith, rose.more, trial.sound)
 
       small_last : last.calls ≤ 2 ^ 64 - 1
       small_last = omega (arith, within, small)

@@ -2,3 +2,4 @@
 pub mod Freed
 pub mod Going
 pub mod Outside
+pub mod Steady

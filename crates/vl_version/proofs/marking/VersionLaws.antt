@@ -233,7 +233,7 @@ module _ {H R : Type 0} (bytes_of : H → Option (List ℕ)) (faults : R → ℕ
             (λ fault. IsCounted (is_disk_fault fault) (faults old.reader) (faults new.reader))
         by (Ok x) cause = cause.steady (λ failed. failed)
         by (Err NoMemory) cause = cause.steady (λ failed. failed)
-        by (Err (Disk name)) cause = record { later = cause.later; rose = cause.rose tt }
+        by (Err (Disk name)) cause = let rose = cause.rose tt in record { later = rose.later; rose = rose.more; counts = rose.counts }
         by (Err (Damaged name place)) cause = cause.steady (λ failed. failed)
 
     -- where these are the entries of all sources

@@ -104,7 +104,10 @@ returns-in-Some-Replay-clause-reader_fault g c s starts is =
     (λ (tables : EndsAtTables g.D.Watched g.D.Reader.Reader.faults g.K.Sink c.args.disk c.replay-ending.result.disk
     c.args.sink.now c.replay-ending.new.sink ending
     × (c.replay-ending.new.source ≡ c.args.source.now)).
-    inr (record { reader = ByReader tables.0.0.reader.reader; some = tables.0.0.reader.some }))
+    inr (record {
+      failed = record { reader = ByReader tables.0.0.reader.reader; some = tables.0.0.reader.some };
+      not_so = tables.0.0.gives;
+    }))
     c.replay-ending.ensures.disk_faults
 
 pub returns-in-Some-Replay-clause-no_disk_fault : goal.returns-in-Some-Replay-clause-no_disk_fault

@@ -2,6 +2,7 @@ use Rattle.std.proofs.Common.{◌≡◌, ◌∙◌, ap, refl, subst, sym}
 use Rattle.std.specs.Prelude.{Some}
 use Rattle.std.specs.FinMap.{get}
 use Rattle.vl_disk.specs.DiskState.{file_at}
+use Rattle.vl_disk.specs.laws.Counting.{never_fails}
 use Rattle.vl_disk.specs.declared.name.Name.TheVariants.{Table}
 use Rattle.vl_recover.specs.declared.fails.OpenError.{OpenError}
 use Rattle.vl_recover.specs.opening.OpenedTables.{IsNoTable}
@@ -42,3 +43,9 @@ pub returns-in-Err-clause-read_fault : goal.returns-in-Err-clause-read_fault
 returns-in-Err-clause-read_fault g c some =
     subst (λ (e : OpenError). HasFailed (recovery_by e)) (sym c.from.ensures)
     (fault_read (OpenedTable g.row.D-Held.Denot) _ _ c.in-Err.fault c.requires.fresh c.in-Err.ensures.answers.cause some)
+
+pub returns-in-Ok-clause-steady : goal.returns-in-Ok-clause-steady
+returns-in-Ok-clause-steady g c sure = never_fails _ _ _ c.in-Ok.ensures.answers.cause sure
+
+pub returns-in-Err-clause-steady : goal.returns-in-Err-clause-steady
+returns-in-Err-clause-steady g c sure = never_fails _ _ _ c.in-Err.ensures.answers.cause sure

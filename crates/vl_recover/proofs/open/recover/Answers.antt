@@ -1,3 +1,5 @@
+use Rattle.vl_disk.specs.Faults.{NoneCounted}
+use Rattle.vl_disk.specs.laws.Counting.{never_counted, none_counted}
 use Rattle.std.proofs.Common.{List, [], ◌∷◌, ap, refl, subst, sym, ◌∙◌}
 use Rattle.std.specs.Prelude.{All}
 use Rattle.vl_manifest.specs.declared.edit.Edit.{Edit}
@@ -303,29 +305,62 @@ returns-in-Err-clause-unmoved g c some =
     call_as g.D.Watched _ _ _ ⊥ (reader_failed _ (recovery_by c.in-Err.why) some) (λ none. none) c.in-Err.ensures.no_change
 
 pub returns-in-Err-NoMemory-clause-unmoved : goal.returns-in-Err-NoMemory-clause-unmoved
-returns-in-Err-NoMemory-clause-unmoved g c some = absurd (some c.in-Ok-prepare.ensures.fresh)
+returns-in-Err-NoMemory-clause-unmoved g c some = absurd (c.in-Ok-prepare.ensures.fresh.none some)
 
 pub returns-clause-unmoved : goal.returns-clause-unmoved
-returns-clause-unmoved g c some = absurd (some c.in-Ok-prepare.ensures.fresh)
+returns-clause-unmoved g c some = absurd (c.in-Ok-prepare.ensures.fresh.none some)
 
 pub returns-in-Ok-repair-clause-unmoved : goal.returns-in-Ok-repair-clause-unmoved
-returns-in-Ok-repair-clause-unmoved g c some = absurd (some refl)
+returns-in-Ok-repair-clause-unmoved g c some = absurd (none_counted.none some)
 
 pub returns-in_default-clause-unmoved : goal.returns-in_default-clause-unmoved
-returns-in_default-clause-unmoved g c some = absurd (some refl)
+returns-in_default-clause-unmoved g c some = absurd (none_counted.none some)
 
 -- which is answered
 pub returns-in-Err-clause-read_fault : goal.returns-in-Err-clause-read_fault
 returns-in-Err-clause-read_fault g c some = c.in-Err.ensures.read_fault some
 
 pub returns-in-Err-NoMemory-clause-read_fault : goal.returns-in-Err-NoMemory-clause-read_fault
-returns-in-Err-NoMemory-clause-read_fault g c some = absurd (some c.in-Ok-prepare.ensures.fresh)
+returns-in-Err-NoMemory-clause-read_fault g c some = absurd (c.in-Ok-prepare.ensures.fresh.none some)
 
 pub returns-clause-read_fault : goal.returns-clause-read_fault
-returns-clause-read_fault g c some = absurd (some c.in-Ok-prepare.ensures.fresh)
+returns-clause-read_fault g c some = absurd (c.in-Ok-prepare.ensures.fresh.none some)
 
 pub returns-in-Ok-repair-clause-read_fault : goal.returns-in-Ok-repair-clause-read_fault
-returns-in-Ok-repair-clause-read_fault g c some = absurd (some refl)
+returns-in-Ok-repair-clause-read_fault g c some = absurd (none_counted.none some)
 
 pub returns-in_default-clause-read_fault : goal.returns-in_default-clause-read_fault
-returns-in_default-clause-read_fault g c some = absurd (some refl)
+returns-in_default-clause-read_fault g c some = absurd (none_counted.none some)
+
+-- ---- where no reader fails
+
+pub returns-in-Err-clause-steady : goal.returns-in-Err-clause-steady
+returns-in-Err-clause-steady g c sure =
+    subst NoneCounted (sym (c.prepare.ensures.steady (c.in-Ok.ensures.faults.never_fails sure))) never_counted
+
+pub returns-in-Err-NoMemory-clause-steady : goal.returns-in-Err-NoMemory-clause-steady
+returns-in-Err-NoMemory-clause-steady g c sure = c.in-Ok-prepare.ensures.fresh
+
+pub returns-clause-steady : goal.returns-clause-steady
+returns-clause-steady g c sure = c.in-Ok-prepare.ensures.fresh
+
+pub returns-in-Ok-repair-clause-steady : goal.returns-in-Ok-repair-clause-steady
+returns-in-Ok-repair-clause-steady g c sure = none_counted
+
+pub returns-in_default-clause-steady : goal.returns-in_default-clause-steady
+returns-in_default-clause-steady g c sure = none_counted
+
+pub prepare-requires : goal.prepare-requires
+prepare-requires g c = record { fresh = c.in-Ok.ensures.faults.none }
+
+pub returns-in-Ok-repair-clause-unread : goal.returns-in-Ok-repair-clause-unread
+returns-in-Ok-repair-clause-unread g c state read told is_read none = none_counted
+
+pub returns-in_default-clause-unread : goal.returns-in_default-clause-unread
+returns-in_default-clause-unread g c state read told is_read none = none_counted
+
+pub returns-in-Err-NoMemory-clause-unread : goal.returns-in-Err-NoMemory-clause-unread
+returns-in-Err-NoMemory-clause-unread g c state read told is_read none = c.in-Ok-prepare.ensures.fresh
+
+pub returns-clause-unread : goal.returns-clause-unread
+returns-clause-unread g c state read told is_read none = c.in-Ok-prepare.ensures.fresh

@@ -19,6 +19,7 @@ pub loop-number-init : goal.loop-number-init
 loop-number-init g c = record {
   still = no_call g.D.Watched c.args.disk.now;
   fresh = c.requires.fresh;
+  steady = λ sure. sure;
   so_far = λ state read told is.
       subst (λ (ts : List _). AreOpened read c.args.is_deeper c.args.tables.now (found_list ts) c.args.tables.now)
       (sym c.new-opened.ensures.items)
@@ -36,6 +37,7 @@ loop-number-preserved g c =
     record {
       still = then_call g.D.Watched c.args.disk.now c.loop-number.disk c.open_table.new.disk ⊥ so.still c.in_ok-table.ensures.no_change;
       fresh = c.in_ok-table.ensures.fresh;
+      steady = λ sure. c.open_table.ensures.steady (so.steady sure);
       so_far = λ state read told is.
           subst (λ (ts : List FoundTable). AreOpened read deeper tables ts (drop (i + 1) tables))
           (found_more c.loop-number.opened.items c.in_ok-opened.opened.items c.in_ok-table.table c.in_ok-opened.ensures.more)

@@ -1,5 +1,6 @@
 use Rattle.std.proofs.Common.{◌≡◌, drop}
 use Rattle.std.specs.Prelude.{Some}
+use Rattle.vl_disk.specs.Faults.{NoneCounted, never}
 use Rattle.vl_disk.specs.Calls.{ChangesNothing}
 use Rattle.vl_disk.specs.Crash.{Image}
 use Rattle.vl_disk.specs.DiskState.{DiskState}
@@ -12,7 +13,8 @@ use Rattle.vl_recover.proofs.tables.open_level.Given as goal
 abbrev pub invariant-loop-number : goal.invariant-loop-number
 invariant-loop-number g l = record {
   still : ChangesNothing g.D.Watched l.fn.disk l.disk ⊥;
-  fresh : g.D.Reader.Reader.faults l.reader ≡ 0;
+  fresh : NoneCounted (g.D.Reader.Reader.faults l.reader);
+  steady : g.D.Reader.Reader.faults l.fn.reader ≡ never → g.D.Reader.Reader.faults l.reader ≡ never;
   so_far : (state : DiskState) (read : Image) → g.D.Watched.told l.fn.disk ≡ Some state → IsRead read state
       → AreOpened read l.is_deeper l.tables (found_level l.opened) (drop l.number-index l.tables);
   held : (state : DiskState) (read : Image) → g.D.Watched.told l.fn.disk ≡ Some state → IsRead read state

@@ -37,6 +37,7 @@ loop-list-init g c =
     record {
       still = no_call g.D.Watched c.args.disk.now;
       fresh = c.requires.fresh;
+      steady = λ sure. sure;
       so_far = λ state read told is.
           subst (λ (ls : List _). AreLevelsOpened read levels (map found_level ls) false levels) (sym c.new-opened.ensures.items)
           (no_levels read levels);
@@ -55,6 +56,7 @@ loop-list-preserved g c =
     record {
       still = then_call g.D.Watched c.args.disk.now c.loop-list.disk c.open_level.new.disk ⊥ so.still c.in_ok-tables.ensures.no_change;
       fresh = c.in_ok-tables.ensures.fresh;
+      steady = λ sure. c.open_level.ensures.steady (so.steady sure);
       so_far = λ state read told is.
           subst (λ (ls : List (List FoundTable)). AreLevelsOpened read levels ls true (drop (i + 1) levels))
           (levels_more c.loop-list.opened.items c.push.new.self.items c.in_ok-tables.tables c.in-Ok.ensures.items)

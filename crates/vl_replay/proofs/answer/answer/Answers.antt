@@ -281,8 +281,13 @@ some_none a e = cc
 
 pub returns-in-Ok-clause-stands : goal.returns-in-Ok-clause-stands
 returns-in-Ok-clause-stands g c s stands on =
-    let made = rw c.in-Ok-Some.field-0-is at (c.in-Ok-Some.ensures.answers s stands) in
-    (made.0.after, made.2)
+    let made = rw c.in-Ok-Some.field-0-is at (c.in-Ok-Some.ensures.answers s stands) in (
+      made.0.after,
+      record {
+        stands = made.2;
+        unfailing = λ was. of_ok c.execute_line.result _ (ap is_ok c.in-Ok-Some.is) (c.execute_line.ensures.sure s stands was);
+      },
+    )
 
 pub returns-in-Err-NoMemory-clause-reader_fault : goal.returns-in-Err-NoMemory-clause-reader_fault
 returns-in-Err-NoMemory-clause-reader_fault g c s stands by =

@@ -227,3 +227,11 @@ pub returns-in_err-print_answer-clause-halted : goal.returns-in_err-print_answer
 returns-in_err-print_answer-clause-halted g c =
     halted_out (AnswersAsCalled g.D.Watched g.D.Held.HeldFile.bytes g.D.Reader.Reader.faults g.D.Writer.Writer c.args.replayer.now c.line.new.self)
     c.args.text.now c.from_residual-in_err-print_answer.result c.from_residual-in_err-print_answer.ensures.1
+
+-- ---- where nothing was to fail beside the disk, nothing is
+
+pub returns-in_default-clause-sure : goal.returns-in_default-clause-sure
+returns-in_default-clause-sure g c s stands was = was
+
+pub returns-clause-sure : goal.returns-clause-sure
+returns-clause-sure g c s stands was = c.in_ok-answer.ensures.sure c.requires s stands was

@@ -11,8 +11,8 @@ pub returns-in_err-answer-clause-fault : goal.returns-in_err-answer-clause-fault
 returns-in_err-answer-clause-fault g c s stands by =
     let (t, stands_then, all) = c.loop-line.invariant.under_way s stands in
     let residual = c.from_residual-in_err-answer in
-    c.line.ensures.fault c.loop-line.invariant.goes_on t stands_then
-    (by_reader_still c.line.result residual.result _ c.in_err-answer.was residual.ensures.1 by)
+    (c.line.ensures.fault c.loop-line.invariant.goes_on t stands_then
+    (by_reader_still c.line.result residual.result _ c.in_err-answer.was residual.ensures.1 by)).failed
 
 pub loop-line-preserved : goal.loop-line-preserved
 loop-line-preserved g c =

@@ -22,6 +22,7 @@ use Rattle.vl_script_model.specs.laws.UnderWay.{UnderWay, begun, further, over}
 use Rattle.vl_recover.specs.crash.Starts.{MayOpen}
 use Rattle.vl_replay.proofs.Runs.StaysOpen.{held_open}
 use Rattle.vl_script_model.specs.Durable.{Tells}
+use Rattle.vl_replay_laws.specs.laws.Names.Halts.{less_sure}
 use Rattle.vl_replay.proofs.run.answer_lines.Goals as goal
 
 pub returns-in_default-clause-runs : goal.returns-in_default-clause-runs
@@ -51,7 +52,7 @@ lines-init g c = record {
       let begin = streams g.S.Source g.K.Sink c.args.source.now c.args.sink.now in
       subst (λ (b : List ℕ). HasRead input begin begin b 0) (sym c.in-Ok.ensures)
       (read_nothing input begin told (keeps_up_at_first input begin.asked (g.met.S.Source.since_asked c.args.source.now input told)));
-  stands = λ s stands. (s, stands);
+  stands = λ s stands. (s, record { stands = stands; unfailing = λ was. was });
   held = λ s stands held. (s, stands, held);
   called = subst (λ (b : List ℕ). HasCalled (AnswersAsCalled g.D.Watched g.D.Held.HeldFile.bytes g.D.Reader.Reader.faults
       g.D.Writer.Writer) g.K.Sink c.args.replayer c.args.replayer (g.S.Source.left c.args.source.now) (g.S.Source.left c.args.source.now) b
@@ -81,7 +82,10 @@ lines-preserved g c = record {
       (c.in_default-step.ensures.runs u.rest u.to_do);
   has_read = λ input told. c.in_default-step.ensures.reads input
       (streams g.S.Source g.K.Sink c.args.source.now c.args.sink.now) (c.lines.invariant.has_read input told);
-  stands = λ s stands. let now = c.lines.invariant.stands s stands in c.in_default-step.ensures.stands now.0 now.1 refl;
+  stands = λ s stands.
+      let (t, is) = c.lines.invariant.stands s stands in
+      let (u, then) = c.in_default-step.ensures.stands t is.stands refl in
+      (u, record { stands = then.stands; unfailing = λ was. then.unfailing (is.unfailing was) });
   held = λ s stands held. let (t, is, there) = c.lines.invariant.held s stands held in c.in_default-step.ensures.again t is there;
   called = c.in_default-step.ensures.called c.args.replayer (g.S.Source.left c.args.source.now) c.args.sink.now c.lines.invariant.called;
   source_steady = c.in_default-step.ensures.source_faults.steady (λ e. cc) (λ e. cc) ∙ c.lines.invariant.source_steady;
@@ -163,7 +167,7 @@ returns-in_default-clause-reader_fault g c s stands is =
 pub returns-in-Some-clause-reader_fault : goal.returns-in-Some-clause-reader_fault
 returns-in-Some-clause-reader_fault g c s stands is =
     let now = c.lines.invariant.stands s stands in
-    c.in-Some.ensures.reader_fault now.0 now.1 (ap Some is)
+    less_sure _ now.1.unfailing (c.in-Some.ensures.reader_fault now.0 now.1.stands (ap Some is))
 
 -- ---- what is told of the source stays told
 

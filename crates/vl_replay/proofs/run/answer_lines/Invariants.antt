@@ -2,7 +2,7 @@ use Rattle.std.proofs.Common.{◌≡◌, ◌+◌, ℕ, List, length, Some}
 use Rattle.vl_script_model.specs.Reading.{HasRead, streams}
 use Rattle.vl_replay.specs.AsCalled.{AnswersAsCalled}
 use Rattle.vl_script_model.specs.Called.{HasCalled}
-use Rattle.vl_replay.specs.Served.{TakesLines, StandsFor, disk_of}
+use Rattle.vl_replay.specs.Served.{GoesOnFor, TakesLines, StandsFor, disk_of}
 use Rattle.vl_script_model.specs.Durable.{HoldsState}
 use Rattle.vl_script_model.specs.Runs.{script_of, outside}
 use Rattle.vl_script_model.specs.Sequential.{State}
@@ -26,7 +26,8 @@ invariant-lines g l =
           → HasRead input (streams g.S.Source g.K.Sink l.fn.source l.fn.sink)
           (streams g.S.Source g.K.Sink l.source l.sink) l.progress.buffer l.progress.answered;
       stands : (s : State) → StandsFor g.D.Watched g.D.Writer.Writer g.D.Held.HeldFile.bytes l.fn.replayer s
-          → (t : State) × StandsFor g.D.Watched g.D.Writer.Writer g.D.Held.HeldFile.bytes l.progress.replayer t;
+          → (t : State) × GoesOnFor g.D.Watched g.D.Writer.Writer g.D.Held.HeldFile.bytes g.D.Reader.Reader.faults
+          l.fn.replayer l.progress.replayer t;
       held : (s : State) → StandsFor g.D.Watched g.D.Writer.Writer g.D.Held.HeldFile.bytes l.fn.replayer s
           → HoldsState g.D.Watched IsStored s (disk_of l.fn.replayer)
           → (t : State) × StandsFor g.D.Watched g.D.Writer.Writer g.D.Held.HeldFile.bytes l.progress.replayer t

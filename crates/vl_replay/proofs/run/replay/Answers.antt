@@ -25,6 +25,7 @@ use Rattle.vl_replay.proofs.Runs.OpenedRuns.{not_silent, out_of_memory, counts_s
 use Rattle.vl_replay.proofs.Runs.ReaderFaults.{by_either, disk_or_tables, left_as_before}
 use Rattle.vl_replay.proofs.Runs.ReadingOn.{unopened_reads_nothing}
 use Rattle.vl_replay.proofs.Runs.Refusals.{fault_for, fault_of, first_for, no_fault, opened_not_refused, refused_for, refused_or_first}
+use Rattle.vl_replay_laws.specs.laws.Names.Halts.{less_sure}
 use Rattle.vl_replay.proofs.run.replay.Goals as goal
 
 pub returns-in-Ok-clause-runs : goal.returns-in-Ok-clause-runs
@@ -60,7 +61,7 @@ returns-clause-runs g c s input starts told =
     let by_disk = Rose (g.D.Watched.faults c.args.disk) (g.D.Watched.faults fail.disk)
     ⊎ (FailsAtTables g.D.Watched g.D.Reader.Reader.faults c.args.disk fail.disk × (0 ≡ 0)) in
     let shown = by_either g.D.Watched g.D.Reader.Reader.faults c.args.disk fail.disk fail.reader reason
-    c.in-Err.ensures.cause c.in-Err.ensures.unread c.in-Err.ensures.unmoved in
+    c.in-Err.ensures.cause c.in-Err.ensures.unread c.in-Err.ensures.unmoved c.in-Err.ensures.steady in
     ends_refused g.D.Watched (record { only_now = g.met.D.Disk.only_now; counts_now = g.met.D.Disk.counts_now })
     IsStored Shown IsStopped shown_stays stored_exactly
     (λ (t : State). IsTrue t.openable) (Tells g.D.Watched c.args.disk IsDurable) script
@@ -83,7 +84,7 @@ returns-clause-runs g c s input starts told =
     (λ openable durable. let now = c.in-Err.ensures.tells durable.0 durable.1 in
     (now.0, now.1, c.in-Err.ensures.again durable.0 now.0 durable.1 durable.2.may_open now.1))
     (left_as_before g.D.Watched g.D.Reader.Reader.faults c.args.disk fail.disk fail.reader reason c.in-Err.ensures.cause
-    c.in-Err.ensures.unread c.in-Err.ensures.unmoved
+    c.in-Err.ensures.unread c.in-Err.ensures.unmoved c.in-Err.ensures.steady
     (λ none. c.in-Err.ensures.left_alone none refl))
     (λ out. c.in-Err.ensures.left_alone
     (λ fault. out_of_memory g.K.Sink c.args.sink.now ended.new.sink how ended.result ended.ensures.2 out
@@ -107,13 +108,15 @@ returns-clause-disk_faults g c =
     (λ (tables : EndsAtTables g.D.Watched g.D.Reader.Reader.faults g.K.Sink c.args.disk fail.disk c.args.sink.now
     ended.new.sink ended.result). inr (tables, refl))
     (disk_or_tables g.D.Watched g.D.Reader.Reader.faults c.args.disk fail.disk fail.reader fail.why
-    c.in-Err.ensures.cause c.in-Err.ensures.unread c.in-Err.ensures.unmoved
+    c.in-Err.ensures.cause c.in-Err.ensures.unread c.in-Err.ensures.unmoved c.in-Err.ensures.steady
     g.K.Sink c.args.sink.now ended.new.sink ended.ensures.0 ended.result ended.ensures.1 ended.ensures.2)
 
 -- ---- which reader failed
 
 pub returns-in-Ok-clause-reader_fault : goal.returns-in-Ok-clause-reader_fault
-returns-in-Ok-clause-reader_fault g c s starts is = c.answer_lines.ensures.reader_fault s (c.in-Ok.ensures.store s starts) is
+returns-in-Ok-clause-reader_fault g c s starts is =
+    less_sure _ (c.in-Ok.ensures.unfailing s starts)
+    (c.answer_lines.ensures.reader_fault s (c.in-Ok.ensures.store s starts) is)
 
 pub returns-clause-reader_fault : goal.returns-clause-reader_fault
 returns-clause-reader_fault g c s starts is =

@@ -1,4 +1,6 @@
 use Rattle.std.proofs.Common.{◌≡◌, ◌≢◌, ◌≤◌, [], arith, true, false, sym, ◌∙◌}
+use Rattle.vl_disk.specs.laws.Counting.{never_counted}
+use Rattle.vl_disk.specs.Faults.{NoneCounted, never}
 use Rattle.vl_mem.specs.contracts.steady_writer.SteadyWriterWriter.TheImpl as writing
 use Rattle.vl_mem.specs.contracts.stopping_disk.StoppingDiskWatched.TheImpl as memory
 use Rattle.vl_script_model.specs.Failing.{Beside, ByReader, ByWriter, ReaderFailed, beside}
@@ -21,12 +23,12 @@ not_both : true ≡ false → ⊥
 not_both e = cc
 
 -- no reader of the disk counts a fault, nor does what writes its files beside it
-none_counted : {R W : Type 0} (x : Beside R W) → 1 ≤ beside (λ (reader : R). 0) (λ (writer : W). 0) x → ⊥
-none_counted (ByReader reader) some = omega (arith, some)
-none_counted (ByWriter writer) some = omega (arith, some)
+none_counted : {R W : Type 0} (x : Beside R W) → NoneCounted (beside (λ (reader : R). never) (λ (writer : W). never) x)
+none_counted (ByReader reader) = never_counted
+none_counted (ByWriter writer) = never_counted
 
-never_reader : {R W : Type 0} {P : Type 0} → (P → ReaderFailed (beside (λ (reader : R). 0) (λ (writer : W). 0))) → P → ⊥
-never_reader failed p = none_counted (failed p).reader (failed p).some
+never_reader : {R W : Type 0} {P : Type 0} → (P → ReaderFailed (beside (λ (reader : R). never) (λ (writer : W). never))) → P → ⊥
+never_reader failed p = (none_counted (failed p).reader).none (failed p).some
 
 pub returns-in-Ok-clause-comes : goal.returns-in-Ok-clause-comes
 returns-in-Ok-clause-comes g c input told =
@@ -36,7 +38,7 @@ returns-in-Ok-clause-comes g c input told =
     (outside g.S.Source g.K.Sink c.answer_lines.new.source c.answer_lines.new.sink c.answer_lines.result.disk)
     c.in-Ok.ensures.opened c.answer_lines.result.ending (c.answer_lines.ensures.runs begun input c.in-Ok.ensures.opened.stands_for told)
     c.answer_lines.ensures.as_meant c.answer_lines.ensures.disk_faults
-    (never_reader (λ fault. c.answer_lines.ensures.reader_fault begun c.in-Ok.ensures.opened.stands_for fault)) still.0 still.1
+    (never_reader (λ fault. (c.answer_lines.ensures.reader_fault begun c.in-Ok.ensures.opened.stands_for fault).failed)) still.0 still.1
 
 pub returns-then-is_fault-clause-comes : goal.returns-then-is_fault-clause-comes
 returns-then-is_fault-clause-comes g c input told =
@@ -57,7 +59,7 @@ returns-else-is_fault-clause-comes g c input told =
 
 pub returns-in-Ok-clause-no_read_fault : goal.returns-in-Ok-clause-no_read_fault
 returns-in-Ok-clause-no_read_fault g c =
-    never_reader (λ fault. c.answer_lines.ensures.reader_fault begun c.in-Ok.ensures.opened.stands_for fault)
+    never_reader (λ fault. (c.answer_lines.ensures.reader_fault begun c.in-Ok.ensures.opened.stands_for fault).failed)
 
 pub returns-then-is_fault-clause-no_read_fault : goal.returns-then-is_fault-clause-no_read_fault
 returns-then-is_fault-clause-no_read_fault g c e = cc

@@ -6,12 +6,14 @@ use Rattle.vl_replay.proofs.AsCalled.Merging.{met_alike, met_filling, met_readin
 use Rattle.std.specs.Prelude.{Err}
 use Rattle.vl_replay.specs.Rounds.{halt_by}
 use Rattle.vl_replay.specs.declared.tables.Round.{Round}
-use Rattle.vl_replay.proofs.CarryingJob.{filling_failed, fits_kept, fits_same, fits_taken, has_same, left_under_way, lent_under_way}
-use Rattle.vl_replay.proofs.CarryingJob.{one_lent, reading_failed, refused_under_way, sound_filling, sound_reading, still_lent}
+use Rattle.vl_replay.proofs.CarryingJob.{filling_failed, filling_sure, fits_kept, fits_same, fits_taken, has_same, left_under_way, lent_under_way}
+use Rattle.vl_replay.proofs.CarryingJob.{one_lent, reading_failed, reading_sure, refused_under_way, sound_filling, sound_reading, still_lent}
 use Rattle.vl_replay.proofs.CarryingJob.{unlent_tells}
 use Rattle.vl_replay.proofs.CarryingRounds.{ended, filled, is_fresh, unfilled, unlent, unread}
 use Rattle.vl_space.specs.Removing.{Removes}
 use Rattle.vl_replay.proofs.CarryingRemoved.{lent_leaves, unlent_leaves}
+use Rattle.vl_compact.specs.laws.SureReaders.{still_sure}
+use Rattle.vl_table.specs.declared.block_reader.BlockReader.{BlockReader}
 use Rattle.vl_replay.proofs.tables.make_table.Goals as goal
 
 -- ---- it has all of its tables
@@ -59,10 +61,13 @@ returns-in-Err-clause-rounds g c s j way =
     c.in-Err.ensures.cause))
 
 pub returns-in-Err-clause-fault : goal.returns-in-Err-clause-fault
-returns-in-Err-clause-fault g c running by =
-    reading_failed g.D.Reader.Reader.faults g.D.Writer.Writer c.args.reader.now c.ready.new.reader Round _ _ c.in-Err.fault
-    c.in-Err.ensures.cause
-    (rw c.halt_at.ensures at by)
+returns-in-Err-clause-fault g c running by = record {
+  failed = reading_failed g.D.Reader.Reader.faults g.D.Writer.Writer c.args.reader.now c.ready.new.reader Round _ _ c.in-Err.fault
+      c.in-Err.ensures.cause
+      (rw c.halt_at.ensures at by);
+  not_so = λ sure. reading_sure g.D.Reader.Reader.faults g.D.Writer.Writer c.args.reader.now c.ready.new.reader sure.reads Round _ _
+      c.in-Err.fault c.in-Err.ensures.cause (rw c.halt_at.ensures at by);
+}
 
 -- ---- it was lent no file
 
@@ -197,9 +202,15 @@ returns-in-Err-fill-clause-rounds g c s j way =
     c.fresh.new.job c.fill.new.self c.in-Err-fill.fault c.in-Err-fill.ensures.cause))
 
 pub returns-in-Err-fill-clause-fault : goal.returns-in-Err-fill-clause-fault
-returns-in-Err-fill-clause-fault g c running by =
-    filling_failed g.D.Reader.Reader.faults g.D.Writer.Writer c.ready.new.reader c.fill.new.reader Round _ _ c.in-Ok.file c.fresh.new.job
-    c.fill.new.self c.in-Err-fill.fault c.in-Err-fill.ensures.cause (rw c.halt_at-in-Err-fill.ensures at by)
+returns-in-Err-fill-clause-fault g c running by = record {
+  failed = filling_failed g.D.Reader.Reader.faults g.D.Writer.Writer c.ready.new.reader c.fill.new.reader Round _ _ c.in-Ok.file c.fresh.new.job
+      c.fill.new.self c.in-Err-fill.fault c.in-Err-fill.ensures.cause (rw c.halt_at-in-Err-fill.ensures at by);
+  not_so = λ sure. filling_sure g.D.Reader.Reader.faults g.D.Writer.Writer c.ready.new.reader c.fill.new.reader
+      (still_sure (λ (l : BlockReader _). g.D.Reader.Reader.faults l.reader) g.D.Reader.Reader.faults c.args.reader.now
+      c.ready.new.reader c.in-Ok-true.ensures.steady sure.reads) Round _ _ c.in-Ok.file c.fresh.new.job c.fill.new.self
+      c.in-Err-fill.fault (c.in-Ok.ensures.writer.never_fails sure.gives) c.in-Err-fill.ensures.cause
+      (rw c.halt_at-in-Err-fill.ensures at by);
+}
 
 -- ---- what the engine keeps of which files can go
 
@@ -304,3 +315,14 @@ returns-in-Err-fill-clause-fits g c = λ fits.
     subst (λ (b : Base _ _). Fits bytes b.version c.fill.new.reader.looks) base
     (c.fill.ensures.fits (fits_same bytes c.ready.new.self c.fresh.new.job c.ready.new.reader.looks c.fresh.ensures.job
     (fits_kept bytes c.args.job.now c.ready.new.self c.ready.new.reader.looks c.ready.ensures.kept (c.ready.ensures.fits fits))))
+
+-- ---- what never fails
+
+pub returns-in-Ok-fill-clause-sure : goal.returns-in-Ok-fill-clause-sure
+returns-in-Ok-fill-clause-sure g c sure made = record {
+  gives = c.in-Ok.ensures.steady sure.gives;
+  reads = still_sure (λ (l : BlockReader _). g.D.Reader.Reader.faults l.reader) g.D.Reader.Reader.faults c.ready.new.reader
+      c.fill.new.reader c.in-Ok-fill.ensures.steady
+      (still_sure (λ (l : BlockReader _). g.D.Reader.Reader.faults l.reader) g.D.Reader.Reader.faults c.args.reader.now
+      c.ready.new.reader c.in-Ok-true.ensures.steady sure.reads);
+}

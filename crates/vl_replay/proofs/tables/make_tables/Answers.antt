@@ -10,6 +10,7 @@ use Rattle.vl_replay.proofs.CarryingJob.{just_planned, lent_under_way, may_hand_
 use Rattle.vl_replay.proofs.CarryingTables.{all_made, halted, not_begun, one_so_far, out_is, planned_so_far, used_up}
 use Rattle.vl_space.specs.Removing.{Removes}
 use Rattle.vl_replay.proofs.CarryingRemoved.{left_before, left_ended, left_first, left_made, left_used_up}
+use Rattle.vl_replay_laws.specs.laws.Names.Halts.{less_sure}
 use Rattle.vl_replay.proofs.tables.make_tables.Goals as goal
 
 -- ---- before the first round
@@ -37,6 +38,13 @@ tables-init g c = record {
   inputs = refl;
   fits = λ fits. fits c.in_ok-reader.reader.looks (λ files. c.in_ok-reader.ensures.blocks files);
   steady = refl;
+  sure = λ gives. record {
+    gives = gives;
+    reads = record {
+      looks_never = c.in_ok-reader.ensures.looks.never_fails gives;
+      files_never = c.in_ok-reader.ensures.files.never_fails gives;
+    };
+  };
   running = λ running. running;
   so_far = λ s j planned.
       planned_so_far g.D.Watched (record { only_now = g.met.D.Disk.only_now; counts_now = g.met.D.Disk.counts_now }) g.D.Writer.Writer
@@ -62,6 +70,7 @@ tables-preserved g c =
       fits = λ fits. subst (λ (b : Base _ _). Fits g.D.Held.HeldFile.bytes b.version c.make_table.new.reader.looks)
           (sym c.in-Ok-Made.ensures.base) (c.in-Ok-Made.ensures.fits (c.tables.invariant.fits fits));
       steady = c.in-Ok-Made.ensures.cause.steady (λ by. by) ∙ c.tables.invariant.steady;
+      sure = λ gives. c.in-Ok-Made.ensures.sure (c.tables.invariant.sure gives) (ap Ok c.in-Ok-Made.field-0-is);
       running = λ running. ap (λ (core : Core _). core.front.halted) (c.in-Ok-Made.ensures.drawn (ap Ok c.in-Ok-Made.field-0-is)).1
           ∙ c.tables.invariant.running running;
       so_far = λ s j planned.
@@ -133,7 +142,18 @@ returns-in-Err-clause-merged g c s j planned =
 
 pub returns-in-Err-clause-fault : goal.returns-in-Err-clause-fault
 returns-in-Err-clause-fault g c running by =
-    c.in-Err.ensures.fault (c.tables.invariant.running running) by
+    less_sure _ c.tables.invariant.sure (c.in-Err.ensures.fault (c.tables.invariant.running running) by)
+
+-- ---- what never fails
+
+pub returns-in-Ok-Ended-clause-steady : goal.returns-in-Ok-Ended-clause-steady
+returns-in-Ok-Ended-clause-steady g c gives = c.in-Ok-Ended.ensures.steady (c.tables.invariant.sure gives).gives
+
+pub returns-in-Ok-Exhausted-clause-steady : goal.returns-in-Ok-Exhausted-clause-steady
+returns-in-Ok-Exhausted-clause-steady g c gives = c.in-Ok-Exhausted.ensures.steady (c.tables.invariant.sure gives).gives
+
+pub returns-in-Err-clause-steady : goal.returns-in-Err-clause-steady
+returns-in-Err-clause-steady g c gives = c.in-Err.ensures.steady (c.tables.invariant.sure gives).gives
 
 -- ---- what the engine keeps of which files can go
 

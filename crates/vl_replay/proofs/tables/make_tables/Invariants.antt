@@ -1,7 +1,7 @@
 use Rattle.std.specs.Prelude.{◌≡◌, ◌-◌, ◌^◌, None}
 use Rattle.vl_engine_model.specs.declared.job.Job.{Job}
 use Rattle.vl_replay_laws.specs.Drawn.{IsPlanned}
-use Rattle.vl_replay.specs.Rounds.{HasLent}
+use Rattle.vl_replay.specs.Rounds.{HasLent, MergesSurely}
 use Rattle.vl_script_model.specs.Sequential.{State}
 use Rattle.vl_space.specs.Removing.{Removes}
 use Rattle.vl_replay.proofs.CarryingRemoved.{LeavesDrawn}
@@ -19,6 +19,8 @@ invariant-tables g l = record {
   inputs : l.job.inputs ≡ l.fn.job.inputs;
   fits : FitsReaders g.D.Held.HeldFile.bytes l.fn.job → Fits g.D.Held.HeldFile.bytes l.job.base.version l.reader.looks;
   steady : g.D.Watched.faults l.engine.disk ≡ g.D.Watched.faults l.fn.engine.disk;
+  sure : g.D.Watched.gives_steady l.fn.engine.disk
+      → MergesSurely g.D.Watched g.D.Reader.Reader.faults l.engine.disk l.reader;
   running : l.fn.engine.core.front.halted ≡ None → l.engine.core.front.halted ≡ None;
   so_far : (s : State) (j : Job)
       → IsPlanned g.D.Writer.Writer g.D.Held.HeldFile.bytes

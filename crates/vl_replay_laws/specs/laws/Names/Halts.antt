@@ -1,6 +1,6 @@
 -- Why a line that was carried out was given no answer.
 use Rattle.std.proofs.Common.{◌≡◌, ℕ, arith, subst, sym}
-use Rattle.vl_script_model.specs.Failing.{ByReader, ReaderFailed, beside}
+use Rattle.vl_script_model.specs.Failing.{ByReader, FailsBeside, beside}
 use Rattle.std.specs.Prelude.{Ok, Err, Result}
 use Rattle.vl_disk.specs.Faults.{HasCause}
 use Rattle.vl_disk.specs.declared.name.Name.{Name}
@@ -54,5 +54,13 @@ pub not_at : {T P : Type 0} (result : Result T Halt) → (HaltsByDisk result →
 not_at {T} result sound file is = absurd (sound (subst (λ (r : Result T Halt). HaltsByDisk r) (sym is) tt))
 
 -- what a reader counted
-pub by_the_reader : {R W : Type 0} (reads : R → ℕ) (writes : W → ℕ) → ReaderFailed reads → ReaderFailed (beside reads writes)
-by_the_reader reads writes failed = record { reader = ByReader failed.reader; some = failed.some }
+pub by_the_reader : {R W sure other : Type 0} (reads : R → ℕ) (writes : W → ℕ) → (other → sure) → FailsBeside sure reads
+    → FailsBeside other (beside reads writes)
+by_the_reader reads writes so fails = record {
+  failed = record { reader = ByReader fails.failed.reader; some = fails.failed.some };
+  not_so = λ is. fails.not_so (so is);
+}
+
+-- what may not be said of less
+pub less_sure : {R sure other : Type 0} (faults : R → ℕ) → (other → sure) → FailsBeside sure faults → FailsBeside other faults
+less_sure faults so fails = record { failed = fails.failed; not_so = λ is. fails.not_so (so is) }

@@ -1,8 +1,9 @@
 -- What reads at an older number through a name make.
 use Rattle.std.proofs.Common.{◌≡◌, ℕ, false, List, [], ◌∷◌, ◌++◌, refl, ap, sym, ◌∙◌, subst, arith}
 use Rattle.std.specs.Prelude.{Option, Some, Ok, Err, Result}
+use Rattle.vl_disk.specs.laws.Counting.{never_failed, rose_at_all}
 use Rattle.vl_disk.specs.DiskState.{DiskState}
-use Rattle.vl_disk.specs.Faults.{HasCause}
+use Rattle.vl_disk.specs.Faults.{HasCause, never}
 use Rattle.vl_reads.specs.Past.{AtFailed, IsAnsweredAt, beginning}
 use Rattle.vl_reads.specs.Reading.{NotesNothing, OnlyReads}
 use Rattle.vl_reads.specs.Sees.{Sees, SeesAlone}
@@ -22,7 +23,7 @@ use Rattle.vl_model.specs.History.{History}
 use Rattle.vl_model.specs.Keys.{Stored}
 use Rattle.vl_model.specs.Reads.{Read}
 use Rattle.vl_model.specs.Versions.{low}
-use Rattle.vl_script_model.specs.Failing.{ReaderFailed}
+use Rattle.vl_script_model.specs.Failing.{FailsBeside}
 use Rattle.vl_script_model.specs.Halts.{HaltsByDamage, HaltsByDisk, HaltsByReader}
 use Rattle.vl_replay_laws.specs.Replaying.{MakesStep, OnlyNoMemory, StandsIn}
 use Rattle.vl_script_model.specs.Sequential.{State, history_of, without_lengths}
@@ -80,10 +81,14 @@ failed_past (Err (gone.Disk name)) halts = tt
 failed_past (Err (gone.Damaged name place)) halts = absurd halts
 
 pub past_counted : {R : Type 0} (read : Result (Option Stored) AtFail) (result : Result Answer Halt) → result ≡ past_answer read
-    → (faults : R → ℕ) (old new : R) → HasCause (faults old) (faults new) (AtFailed read) → HaltsByReader result → ReaderFailed faults
-past_counted read result is faults old new cause halts =
-    let rose = cause.rose (failed_past read (subst (λ (r : Result Answer Halt). HaltsByReader r) is halts)) in
-    record { reader = new; some = omega (arith, rose) }
+    → (faults : R → ℕ) (old new : R) → HasCause (faults old) (faults new) (AtFailed read)
+    → (sure : Type 0) → (sure → faults old ≡ never) → HaltsByReader result → FailsBeside sure faults
+past_counted read result is faults old new cause sure surely halts =
+    let failed = failed_past read (subst (λ (r : Result Answer Halt). HaltsByReader r) is halts) in
+    record {
+      failed = record { reader = new; some = rose_at_all (faults old) (faults new) (cause.rose failed) };
+      not_so = λ is_sure. never_failed (faults old) (faults new) (AtFailed read) cause (surely is_sure) failed;
+    }
 
 by_disk_past : (result : Result (Option Stored) AtFail) → HaltsByDisk (past_answer result) → ⊥
 by_disk_past (Ok value) halts = halts

@@ -2,8 +2,9 @@
 use Rattle.std.proofs.Common.{◌≡◌, ℕ, ◌==◌, Bool, true, false, cond, ◌&&◌, not, List, [], ◌∷◌, ◌++◌, length, refl, ap}
 use Rattle.std.proofs.Common.{sym, ◌∙◌, subst, arith}
 use Rattle.std.specs.Prelude.{Option, None, Some, Ok, Err, Result, IfOk, OnOk, OnErr, nat_le}
+use Rattle.vl_disk.specs.laws.Counting.{never_failed, rose_at_all}
 use Rattle.vl_disk.specs.DiskState.{DiskState}
-use Rattle.vl_disk.specs.Faults.{HasCause}
+use Rattle.vl_disk.specs.Faults.{HasCause, never}
 use Rattle.vl_reads.specs.Reading.{IsRefusedBy, IsSound as IsSoundRead, NotesNothing, OnlyNotes, OnlyReads}
 use Rattle.vl_reads.specs.Reading.{ReadFailed, either, value_under}
 use Rattle.vl_reads.specs.Sees.{Sees, SeesAlone}
@@ -29,7 +30,7 @@ use Rattle.vl_txn.specs.declared.key_fail.KeyFail.TheVariants.{EmptyKey, KeyTooL
 use Rattle.vl_replay_laws.specs.Replaying.{MakesStep, OnlyNoMemory, StandsIn, state_by}
 use Rattle.vl_script_model.specs.Sequential.{State, as_printed, history_of, without_lengths}
 use Rattle.vl_replay_laws.specs.Standing.{IsTaken, tell_of, read_answer, value_answer}
-use Rattle.vl_script_model.specs.Failing.{ReaderFailed}
+use Rattle.vl_script_model.specs.Failing.{FailsBeside}
 use Rattle.vl_script_model.specs.Halts.{HaltsByDamage, HaltsByReader}
 use Rattle.vl_script_model.specs.declared.fails.Halt.{Halt}
 use Rattle.vl_replay_laws.specs.declared.open.Open.{Open}
@@ -126,12 +127,16 @@ failed_told tell (Err unread.NoMemory) halts = halts
 failed_told tell (Err (unread.Disk name)) halts = tt
 failed_told tell (Err (unread.Damaged name place)) halts = absurd halts
 
--- which it counted
+-- which it counted, as one that never fails doesn't
 pub call_counted : {V R : Type 0} (tell : V → Answer) (read : Result V ReadFail) (result : Result Answer Halt) → result ≡ read_answer tell read
-    → (faults : R → ℕ) (old new : R) → HasCause (faults old) (faults new) (ReadFailed read) → HaltsByReader result → ReaderFailed faults
-call_counted tell read result is faults old new cause halts =
-    let rose = cause.rose (failed_told tell read (subst (λ (r : Result Answer Halt). HaltsByReader r) is halts)) in
-    record { reader = new; some = omega (arith, rose) }
+    → (faults : R → ℕ) (old new : R) → HasCause (faults old) (faults new) (ReadFailed read)
+    → (sure : Type 0) → (sure → faults old ≡ never) → HaltsByReader result → FailsBeside sure faults
+call_counted tell read result is faults old new cause sure surely halts =
+    let failed = failed_told tell read (subst (λ (r : Result Answer Halt). HaltsByReader r) is halts) in
+    record {
+      failed = record { reader = new; some = rose_at_all (faults old) (faults new) (cause.rose failed) };
+      not_so = λ is_sure. never_failed (faults old) (faults new) (ReadFailed read) cause (surely is_sure) failed;
+    }
 
 module _ {H R : Type 0} (bytes : H → Option (List ℕ)) (seen : Option DiskState) (core : Core H) (os : List (Open H R))
     (s : State) (stands : StandsIn bytes seen core os s)

@@ -1,3 +1,5 @@
+use Rattle.vl_disk.specs.laws.Counting.{new_count_since}
+use Rattle.std.proofs.lemmas.Result.{IfOk-weaker}
 use Rattle.vl_steps.proofs.LendsNew.{ends_at_create, ends_at_lend, just_made}
 use Rattle.vl_steps.proofs.fresh.lend_new.Goals as goal
 
@@ -10,3 +12,7 @@ returns-clause-lends g c = ends_at_lend g.D.Watched _ _ _ _ c.in_ok-create.ensur
 
 pub lend-requires-clause-just_made : goal.lend-requires-clause-just_made
 lend-requires-clause-just_made g c = just_made _ _ _ c.in_ok-create.ensures.created
+
+pub returns-clause-faults : goal.returns-clause-faults
+returns-clause-faults g c = IfOk-weaker c.lend.result _ _
+    (λ writer new. new_count_since _ _ _ (c.in_ok-create.ensures.as_call.time.steady) new) c.lend.ensures.faults

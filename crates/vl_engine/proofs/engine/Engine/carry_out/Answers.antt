@@ -7,6 +7,9 @@ use Rattle.vl_engine.proofs.Refusing.{none_lent, read_exit, read_fails, same_aft
 use Rattle.vl_engine.proofs.Refusing.{tells_then}
 use Rattle.vl_disk.specs.laws.Performing.{changed_tells}
 use Rattle.vl_engine.specs.Refusals.{IsLastDrawn, moment}
+use Rattle.vl_engine.proofs.Sure.{at_read, at_step, not_memory}
+use Rattle.vl_compact.specs.laws.SureReaders.{filled_whole, read_whole, still_sure}
+use Rattle.vl_table.specs.declared.block_reader.BlockReader.{BlockReader}
 use Rattle.vl_engine.proofs.UnderWay.{handed_in, one_more, quiet_draw, still_way, unfilled_way, unlent_way}
 use Rattle.vl_engine.proofs.Whole.{drawn_runs, fails, fits_asked, fits_roomy, fits_taken, has_all, has_same, is_fresh}
 use Rattle.vl_engine.proofs.Whole.{made_more, made_more_with, starts, unbegun, unfilled, unfilled_with, unlent, unlent_with}
@@ -44,6 +47,11 @@ making-init g c =
       base = refl;
       inputs = refl;
       looks = λ readers. readers c.in_ok-reader.reader.looks c.in_ok-reader.ensures.blocks;
+      gives = λ gives. gives;
+      sure = λ gives. record {
+        files_never = c.in_ok-reader.ensures.files.never_fails gives;
+        looks_never = c.in_ok-reader.ensures.looks.never_fails gives;
+      };
     }
 
 -- all tables are made
@@ -148,6 +156,10 @@ making-preserved g c =
           (fits_at g.D.Held.HeldFile.bytes c.making.job.base c.args.job.now.base c.ready.new.reader.looks c.making.invariant.base
           (c.ready.ensures.fits (fits_at g.D.Held.HeldFile.bytes c.args.job.now.base c.making.job.base c.making.reader.looks
           (sym c.making.invariant.base) (c.making.invariant.looks readers))))));
+      gives = λ gives. c.fresh.ensures.steady (c.making.invariant.gives gives);
+      sure = λ gives. still_sure (λ (l : BlockReader _). g.D.Reader.Reader.faults l.reader) g.D.Reader.Reader.faults c.ready.new.reader c.fill.new.reader c.in_ok-fill.ensures.steady
+          (still_sure (λ (l : BlockReader _). g.D.Reader.Reader.faults l.reader) g.D.Reader.Reader.faults c.making.reader c.ready.new.reader c.in_ok-ready.ensures.steady
+          (c.making.invariant.sure gives));
     }
 
 -- it ends before that
@@ -392,6 +404,31 @@ returns-clause-as_made g c =
       has_drawn g.D.Watched old mid c.making.counter c.making.invariant.draws,
       all_drawn g.D.Watched old mid c.making.counter c.args.self.now.numbered.1 c.making.invariant.draws (omega arith),
     )
+
+-- over a disk that gives what never fails
+
+pub returns-in_err-reader-clause-sure : goal.returns-in_err-reader-clause-sure
+returns-in_err-reader-clause-sure g c name gives at = absurd (not_memory c.from_residual.result name c.from_residual.ensures.1 at)
+
+pub returns-in_err-ready-clause-sure : goal.returns-in_err-ready-clause-sure
+returns-in_err-ready-clause-sure g c name gives at =
+    absurd (read_whole (λ (l : BlockReader _). g.D.Reader.Reader.faults l.reader) g.D.Reader.Reader.faults _ _ c.making.reader
+    c.ready.new.reader (c.making.invariant.sure gives) c.in_err-ready.field-0.0 name c.in_err-ready.ensures.cause
+    (at_read c.in_err-ready.field-0.0 c.from_residual-in_err-ready.result name c.from_residual-in_err-ready.ensures.1 at))
+
+pub returns-in_err-file-clause-sure : goal.returns-in_err-file-clause-sure
+returns-in_err-file-clause-sure g c name gives at =
+    at_step _ _ _ c.in_err-file.field-0.0 c.from_residual-in_err-file.result name c.making.invariant.draws.steady
+    c.in_err-file.ensures.cause c.from_residual-in_err-file.ensures.1 at
+
+pub returns-in_err-fill-clause-sure : goal.returns-in_err-fill-clause-sure
+returns-in_err-fill-clause-sure g c name gives at =
+    let sure = c.making.invariant.sure gives in
+    absurd (filled_whole (λ (l : BlockReader _). g.D.Reader.Reader.faults l.reader) g.D.Reader.Reader.faults _ _ c.ready.new.reader
+    c.fill.new.reader (still_sure (λ (l : BlockReader _). g.D.Reader.Reader.faults l.reader) g.D.Reader.Reader.faults c.making.reader c.ready.new.reader c.in_ok-ready.ensures.steady sure)
+    g.D.Writer.Writer c.in_ok-file.file c.fresh.new.job c.fill.new.self c.in_err-fill.field-0.0 name
+    (c.in_ok-file.ensures.writer.never_fails (c.making.invariant.gives gives)) c.in_err-fill.ensures.cause
+    (at_read c.in_err-fill.field-0.0 c.from_residual-in_err-fill.result name c.from_residual-in_err-fill.ensures.1 at))
 
 -- a halted engine did nothing
 

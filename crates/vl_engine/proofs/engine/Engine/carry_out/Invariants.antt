@@ -1,4 +1,6 @@
 use Rattle.std.specs.Prelude.{◌≡◌, Some}
+use Rattle.vl_compact.specs.Reading.{IsSure}
+use Rattle.vl_table.specs.declared.block_reader.BlockReader.{BlockReader}
 use Rattle.vl_engine.proofs.Whole.{IsMaking}
 use Rattle.vl_steps.specs.Merging.{FitsReaders, HasMerge}
 use Rattle.vl_engine_laws.specs.Lent.{StandsOpen}
@@ -44,4 +46,7 @@ invariant-making g l = record {
   inputs : l.job.inputs ≡ l.fn.job.inputs;
   looks : FitsReaders g.D.Held.HeldFile.bytes l.fn.job
       → bases.Fits g.D.Held.HeldFile.bytes l.fn.job.base.version l.reader.looks;
+  gives : g.D.Watched.gives_steady l.fn.self.disk → g.D.Watched.gives_steady l.self.disk;
+  sure : g.D.Watched.gives_steady l.fn.self.disk → IsSure (λ (r : BlockReader _). g.D.Reader.Reader.faults r.reader)
+      g.D.Reader.Reader.faults l.reader;
 }

@@ -11,6 +11,7 @@ use Rattle.vl_engine_laws.specs.MayStep.{Fits}
 use Rattle.vl_front.specs.declared.decision.Decision.TheVariants as decisions
 use Rattle.vl_engine_model.specs.Ruling.{ended}
 use Rattle.vl_engine_model.specs.Rulings.Commit as answers
+use Rattle.vl_steps.specs.laws.Steady.{commit_steady, same_steady}
 use Rattle.vl_steps.specs.laws.Untold.{commit_untold}
 use Rattle.vl_engine.proofs.WriteRemoved.{removes_by, stock_by}
 use Rattle.vl_space.specs.Removing.{Removes}
@@ -289,6 +290,20 @@ pub returns-in-Write-clause-untold : goal.returns-in-Write-clause-untold
 returns-in-Write-clause-untold g c =
     commit_untold g.D.Watched c.args.self.now.core c.write.new.self.core c.args.self.now.disk c.write.new.self.disk
     c.args.txn.ticket c.args.txn.writes c.write.result c.write.ensures.as_written
+
+pub returns-in-Halted-clause-steady : goal.returns-in-Halted-clause-steady
+returns-in-Halted-clause-steady g c gives = same_steady g.D.Watched _ _ c.forget.ensures.disk gives
+
+pub returns-in-Nothing-clause-steady : goal.returns-in-Nothing-clause-steady
+returns-in-Nothing-clause-steady g c gives = same_steady g.D.Watched _ _ c.forget-in-Nothing.ensures.disk gives
+
+pub returns-in-Conflict-clause-steady : goal.returns-in-Conflict-clause-steady
+returns-in-Conflict-clause-steady g c gives = same_steady g.D.Watched _ _ c.forget-in-Conflict.ensures.disk gives
+
+pub returns-in-Write-clause-steady : goal.returns-in-Write-clause-steady
+returns-in-Write-clause-steady g c gives =
+    commit_steady g.D.Watched c.args.self.now.core c.write.new.self.core c.args.self.now.disk c.write.new.self.disk
+    c.args.txn.ticket c.args.txn.writes c.write.result c.write.ensures.as_written gives
 
 -- ---- which files can go
 

@@ -20,6 +20,7 @@ use Rattle.vl_steps.specs.Flushing.{flush_effects}
 use Rattle.vl_engine_model.specs.Decides.{as_before}
 use Rattle.vl_engine_model.specs.Ruling.{Exhausted, Halted, Idle}
 use Rattle.vl_engine_model.specs.Rulings.Flush.{flush_ruling}
+use Rattle.vl_steps.specs.laws.Steady.{flush_steady}
 use Rattle.vl_steps.specs.laws.Untold.{flush_untold}
 use Rattle.vl_engine.proofs.StockExits.{flushed}
 use Rattle.vl_engine_laws.specs.Lent.{lent_in}
@@ -305,6 +306,11 @@ pub returns-in-Go-clause-untold : goal.returns-in-Go-clause-untold
 returns-in-Go-clause-untold g c =
     flush_untold g.D.Watched c.args.self.now.core c.make_table.new.self.core c.args.self.now.disk c.make_table.new.self.disk
     g.D.Held.HeldFile.bytes c.make_table.result c.make_table.ensures.as_flushed
+
+pub returns-in-Go-clause-steady : goal.returns-in-Go-clause-steady
+returns-in-Go-clause-steady g c gives =
+    flush_steady g.D.Watched c.args.self.now.core c.make_table.new.self.core c.args.self.now.disk c.make_table.new.self.disk
+    g.D.Held.HeldFile.bytes c.make_table.result c.make_table.ensures.as_flushed gives
 
 -- what is kept of live bytes
 

@@ -1,5 +1,6 @@
 use Rattle.std.proofs.Common.{arith, refl, subst, ◌≡◌, ◌∙◌}
 use Rattle.vl_disk.specs.declared.name.Name.TheVariants as names
+use Rattle.vl_disk.specs.laws.Counting.{new_count_since}
 use Rattle.vl_engine_laws.specs.laws.Carrying.{IsWatched}
 use Rattle.vl_steps.specs.laws.DrawFits.{fit_drawn, fit_told, is_new, lent_failed, lent_then, log_kept, more_then, same_itself}
 use Rattle.vl_steps.specs.laws.DrawFits.{leaves_lending, leaves_ready}
@@ -287,3 +288,20 @@ invariant_of-self-in_default-ready_fresh g c =
           (leaves_ready g.D.Watched before.disk c.ready_fresh.new.disk next ready.elsewhere ready.no_change.told)
           (before.there running));
     }
+
+-- ---- what never fails
+
+pub returns-in-Ok-lend_new-clause-writer : goal.returns-in-Ok-lend_new-clause-writer
+returns-in-Ok-lend_new-clause-writer g c =
+    new_count_since _ _ _ c.ready_fresh.ensures.no_change.time.steady c.in-Ok-lend_new.ensures.faults
+
+pub returns-in-Ok-lend_new-clause-steady : goal.returns-in-Ok-lend_new-clause-steady
+returns-in-Ok-lend_new-clause-steady g c gives =
+    c.in-Ok-lend_new.ensures.lends.performs.time.steady (c.ready_fresh.ensures.no_change.time.steady gives)
+
+pub returns-in-Err-clause-steady : goal.returns-in-Err-clause-steady
+returns-in-Err-clause-steady g c gives =
+    c.in-Err.ensures.lends.performs.time.steady (c.ready_fresh.ensures.no_change.time.steady gives)
+
+pub returns-in_default-ready_fresh-clause-steady : goal.returns-in_default-ready_fresh-clause-steady
+returns-in_default-ready_fresh-clause-steady g c gives = c.ready_fresh.ensures.no_change.time.steady gives

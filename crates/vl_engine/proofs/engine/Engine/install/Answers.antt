@@ -4,6 +4,7 @@ use Rattle.vl_steps.specs.laws.InstallExits.{calls_by, carries_by, carries_ended
 use Rattle.vl_steps.specs.laws.InstallExits.{fits_by, fits_ended, fits_short, keeps_told, leaves_by, meanwhile_by}
 use Rattle.vl_steps.specs.laws.InstallExits.{raced_so, ruled_halted, ruled_raced, stands_by, stands_ended, stands_short}
 use Rattle.vl_steps.specs.laws.InstallExits.{stopped_by, untold_by, untouched_by, within_by}
+use Rattle.vl_steps.specs.laws.Steady.{install_steady}
 use Rattle.vl_steps.specs.laws.InstallTotal.{core_by, halted_at, none_races, not_halted, written_by}
 use Rattle.vl_engine_laws.specs.laws.Untouched.{alone}
 use Rattle.vl_compact.specs.Progress.{made_of}
@@ -93,6 +94,9 @@ returns-in-Some-clause-calls g c =
 pub returns-in-Some-clause-untold : goal.returns-in-Some-clause-untold
 returns-in-Some-clause-untold g c =
     tt
+
+pub returns-in-Some-clause-steady : goal.returns-in-Some-clause-steady
+returns-in-Some-clause-steady g c gives = gives
 
 pub returns-in-Some-clause-cause : goal.returns-in-Some-clause-cause
 returns-in-Some-clause-cause g c =
@@ -193,6 +197,9 @@ pub returns-in-Ok-Some-clause-untold : goal.returns-in-Ok-Some-clause-untold
 returns-in-Ok-Some-clause-untold g c =
     tt
 
+pub returns-in-Ok-Some-clause-steady : goal.returns-in-Ok-Some-clause-steady
+returns-in-Ok-Some-clause-steady g c gives = gives
+
 pub returns-in-Ok-Some-clause-cause : goal.returns-in-Ok-Some-clause-cause
 returns-in-Ok-Some-clause-cause g c =
     record { later = omega arith; rose = λ failed. absurd failed; steady = λ fine. refl }
@@ -272,6 +279,9 @@ returns-in-Err-clause-calls g c =
 pub returns-in-Err-clause-untold : goal.returns-in-Err-clause-untold
 returns-in-Err-clause-untold g c =
     tt
+
+pub returns-in-Err-clause-steady : goal.returns-in-Err-clause-steady
+returns-in-Err-clause-steady g c gives = gives
 
 pub returns-in-Err-clause-cause : goal.returns-in-Err-clause-cause
 returns-in-Err-clause-cause g c =
@@ -381,6 +391,12 @@ pub returns-in-Ok-None-clause-untold : goal.returns-in-Ok-None-clause-untold
 returns-in-Ok-None-clause-untold g c =
     untold_by g.D.Watched g.D.Held.HeldFile.bytes g.D.Writer.Writer c.args.job c.args.self.now.disk c.install_unraced.new.self.disk
     c.args.self.now.core c.install_unraced.new.self.core c.install_unraced.result c.install_unraced.ensures.as_unraced
+
+pub returns-in-Ok-None-clause-steady : goal.returns-in-Ok-None-clause-steady
+returns-in-Ok-None-clause-steady g c gives =
+    install_steady g.D.Watched c.args.self.now.core c.install_unraced.new.self.core c.args.self.now.disk
+    c.install_unraced.new.self.disk g.D.Held.HeldFile.bytes g.D.Writer.Writer c.args.job c.install_unraced.result
+    c.install_unraced.ensures.as_unraced gives
 
 pub returns-in-Ok-None-clause-cause : goal.returns-in-Ok-None-clause-cause
 returns-in-Ok-None-clause-cause g c =

@@ -10,6 +10,7 @@ use Rattle.vl_engine_laws.specs.Represents.{Fronts, StandsFor, file_of}
 use Rattle.vl_engine_laws.specs.MayStep.{Fits}
 use Rattle.vl_engine_model.specs.Decides.{as_before}
 use Rattle.vl_engine_model.specs.Rulings.Keep.{Halted, InvalidRequest, keep_ruling}
+use Rattle.vl_steps.specs.laws.Steady.{keep_steady}
 use Rattle.vl_steps.specs.laws.Untold.{keep_untold}
 use Rattle.vl_engine.proofs.engine.Engine.keep.Goals as goal
 
@@ -178,6 +179,11 @@ pub returns-clause-untold : goal.returns-clause-untold
 returns-clause-untold g c =
     keep_untold g.D.Watched c.args.self.now.core c.switch_kept.new.self.core c.args.self.now.disk c.switch_kept.new.self.disk
     c.args.versions c.switch_kept.result c.switch_kept.ensures.as_kept
+
+pub returns-clause-steady : goal.returns-clause-steady
+returns-clause-steady g c gives =
+    keep_steady g.D.Watched c.args.self.now.core c.switch_kept.new.self.core c.args.self.now.disk c.switch_kept.new.self.disk
+    c.args.versions c.switch_kept.result c.switch_kept.ensures.as_kept gives
 
 pub returns-clause-removes : goal.returns-clause-removes
 returns-clause-removes g c h l is removes =

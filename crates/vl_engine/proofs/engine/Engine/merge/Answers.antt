@@ -13,6 +13,8 @@ use Rattle.vl_engine_laws.specs.declared.kept.Core.{Core}
 use Rattle.vl_engine.proofs.MergeRemoved.{abandoned_removing, install_unpinned, is_halted, not_put_in, put_in_removing}
 use Rattle.vl_engine.proofs.MergeRemoved.{untouched_removing, was_put_in}
 use Rattle.vl_engine.proofs.Whole.{begun, begun_with, collects_so, abandoned, abandoned_collecting, goes_on, none_kept, put_in}
+use Rattle.vl_disk.specs.Faults.{Rose}
+use Rattle.vl_engine.proofs.Sure.{at_install, err_same, not_memory}
 use Rattle.vl_engine.proofs.Switching.{install_idle}
 use Rattle.vl_engine.proofs.Whole.{put_in_collecting, unless_halted, untouched_by, untouched_collecting}
 use Rattle.vl_steps.specs.declared.fails.InstallFail.TheVariants as fails
@@ -486,6 +488,24 @@ returns-in-Err-install-clause-as_merged g c =
     (subst (λ (o : Option _). OpensMerge {E = NoMemory} c.args.self.now.merging c.plan.new.self.merging (Ok o)) c.in-Some.is
     c.in_ok-job.ensures.merging) c.carry_out.ensures.lends) (c.in-Err-install.ensures.raced key n is))
     c.abandoned.result c.abandoned.ensures.refusal
+
+-- over a disk that gives what never fails
+
+pub returns-in_err-job-clause-sure : goal.returns-in_err-job-clause-sure
+returns-in_err-job-clause-sure g c name gives at = absurd (not_memory c.from_residual.result name c.from_residual.ensures.1 at)
+
+pub returns-in-Err-clause-sure : goal.returns-in-Err-clause-sure
+returns-in-Err-clause-sure g c name gives at =
+    subst (λ (d : g.row.D.Denot). Rose (g.D.Watched.faults d) (g.D.Watched.faults c.abandon.new.self.disk)) c.plan.ensures.disk
+    (subst (λ (d : g.row.D.Denot). Rose (g.D.Watched.faults c.plan.new.self.disk) (g.D.Watched.faults d)) (sym c.abandon.ensures.disk)
+    (c.carry_out.ensures.sure name (subst g.D.Watched.gives_steady (sym c.plan.ensures.disk) gives) (c.in-Err.is ∙ at)))
+
+pub returns-in-Err-install-clause-sure : goal.returns-in-Err-install-clause-sure
+returns-in-Err-install-clause-sure g c name gives at =
+    subst (λ (d : g.row.D.Denot). Rose (g.D.Watched.faults c.args.self.now.disk) (g.D.Watched.faults d)) (sym c.abandoned.ensures.disk)
+    (at_install _ _ _ c.in-Err-install.fail c.abandoned.result name
+    (c.in_default-carry_out.ensures.as_made.steady ∙ ap g.D.Watched.faults c.plan.ensures.disk)
+    c.in-Err-install.ensures.cause c.abandoned.ensures.refusal (err_same _ _ at))
 
 -- a halted engine did nothing
 

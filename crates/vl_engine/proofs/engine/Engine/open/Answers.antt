@@ -1,6 +1,7 @@
 use Rattle.std.proofs.Common.{refl, ap, subst, sym, ◌∙◌}
 use Rattle.std.specs.Prelude.{All, List, max}
 use Rattle.vl_disk.specs.Moments.{waits}
+use Rattle.vl_disk.specs.laws.Counting.{none_counted}
 use Rattle.vl_engine_laws.specs.laws.FitsAtStart.{opened_fits}
 use Rattle.vl_engine_laws.specs.laws.Opened.{opened_back, opened_core, opened_fit, opened_numbered, opened_represents}
 use Rattle.vl_engine_laws.specs.laws.Opened.{opened_stands, opening_through, opens_still}
@@ -44,7 +45,7 @@ returns-in-Err-clause-through g c state read h told durable is_read shown =
     (c.in-Err.ensures.through state told durable.may_open)
 
 pub returns-in_default-clause-unmoved : goal.returns-in_default-clause-unmoved
-returns-in_default-clause-unmoved g c some = absurd (some refl)
+returns-in_default-clause-unmoved g c some = absurd (none_counted.none some)
 
 pub returns-in-Err-clause-unmoved : goal.returns-in-Err-clause-unmoved
 returns-in-Err-clause-unmoved g c some =
@@ -163,7 +164,7 @@ invariant_of-result g c = record {
 }
 
 pub returns-clause-unmoved : goal.returns-clause-unmoved
-returns-clause-unmoved g c some = absurd (some refl)
+returns-clause-unmoved g c some = absurd (none_counted.none some)
 
 pub returns-clause-core : goal.returns-clause-core
 returns-clause-core g c state read found told is_read =
@@ -345,13 +346,13 @@ returns-clause-removes g c state read found h told is_read shown =
 -- ---- a fault of the reader
 
 pub returns-in_default-clause-read_fault : goal.returns-in_default-clause-read_fault
-returns-in_default-clause-read_fault g c some = absurd (some refl)
+returns-in_default-clause-read_fault g c some = absurd (none_counted.none some)
 
 pub returns-in-Err-clause-read_fault : goal.returns-in-Err-clause-read_fault
 returns-in-Err-clause-read_fault g c some = as_fault c.in-Err.fail.why (c.in-Err.ensures.read_fault some)
 
 pub returns-clause-read_fault : goal.returns-clause-read_fault
-returns-clause-read_fault g c some = absurd (some refl)
+returns-clause-read_fault g c some = absurd (none_counted.none some)
 
 -- ---- the runs in memory
 
@@ -364,3 +365,20 @@ returns-clause-active g c = c.new.ensures.active
 
 pub returns-clause-pruned : goal.returns-clause-pruned
 returns-clause-pruned g c = c.new-2.ensures.pruned
+
+-- ---- where no reader fails
+
+pub returns-in_default-clause-steady : goal.returns-in_default-clause-steady
+returns-in_default-clause-steady g c sure = none_counted
+
+pub returns-in-Err-clause-steady : goal.returns-in-Err-clause-steady
+returns-in-Err-clause-steady g c sure = c.in-Err.ensures.steady sure
+
+pub returns-clause-steady : goal.returns-clause-steady
+returns-clause-steady g c sure = none_counted
+
+pub returns-in_default-clause-unread : goal.returns-in_default-clause-unread
+returns-in_default-clause-unread g c state read told is_read none = none_counted
+
+pub returns-clause-unread : goal.returns-clause-unread
+returns-clause-unread g c state read told is_read none = none_counted

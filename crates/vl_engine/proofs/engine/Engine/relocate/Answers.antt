@@ -2,6 +2,7 @@ use Rattle.vl_engine.proofs.MoveRemoved.{removes_by}
 use Rattle.vl_steps.specs.laws.RelocatingAnswers.{as_segment, failed_so, fits_behind, read_so, stopped_so, undamaged_so}
 use Rattle.vl_steps.specs.laws.RelocatingExits.{carries_by, fits_by, settled_by, stands_by}
 use Rattle.vl_steps.specs.laws.RelocatingTotals.{back_by, calls_by, files_by, logs_by, merging_by, steps_by, untold_then, untouched_by}
+use Rattle.vl_steps.specs.laws.Steady.{move_steady}
 use Rattle.vl_engine_laws.specs.Lent.{StandsOpen}
 use Rattle.vl_steps.specs.Relocating.{at, move_effects, move_outcome}
 use Rattle.vl_engine.proofs.engine.Engine.relocate.Goals as goal
@@ -101,6 +102,13 @@ returns-clause-untold g c =
     (at c.args.self.now.disk c.args.self.now.core c.args.self.now.merging c.args.looks.now)
     (at c.move_again.new.self.disk c.move_again.new.self.core c.move_again.new.self.merging c.move_again.new.looks)
     c.segment.result c.args.pass.now.log.number c.segment.ensures c.args.batch c.move_again.result c.move_again.ensures.as_moved)
+
+pub returns-clause-steady : goal.returns-clause-steady
+returns-clause-steady g c gives =
+    move_steady g.D.Watched g.D.Held.HeldFile.bytes (λ r. g.D.Reader.Reader.faults r)
+    (at c.args.self.now.disk c.args.self.now.core c.args.self.now.merging c.args.looks.now)
+    (at c.move_again.new.self.disk c.move_again.new.self.core c.move_again.new.self.merging c.move_again.new.looks)
+    c.segment.result c.args.batch c.move_again.result c.move_again.ensures.as_moved gives
 
 pub returns-clause-back : goal.returns-clause-back
 returns-clause-back g c =

@@ -14,6 +14,7 @@ use Rattle.vl_engine_laws.specs.laws.Untouched.{alone}
 use Rattle.vl_steps.specs.Rotating.{rotate_effects}
 use Rattle.vl_steps.specs.Stepping.{StepFailed}
 use Rattle.vl_engine_model.specs.Rulings.Rotate.{rotate_ruling}
+use Rattle.vl_steps.specs.laws.Steady.{rotate_steady}
 use Rattle.vl_steps.specs.laws.Untold.{rotate_untold, untold_same}
 use Rattle.vl_engine.proofs.StockExits.{rotated, rotated_none}
 use Rattle.vl_engine_laws.specs.Lent.{lent_in}
@@ -172,6 +173,11 @@ pub returns-in-None-clause-untold : goal.returns-in-None-clause-untold
 returns-in-None-clause-untold g c =
     rotate_untold g.D.Watched c.args.self.now.core c.seal_active.new.self.core c.args.self.now.disk c.seal_active.new.self.disk
     g.D.Held.HeldFile.bytes c.seal_active.result c.seal_active.ensures.as_rotated
+
+pub returns-in-None-clause-steady : goal.returns-in-None-clause-steady
+returns-in-None-clause-steady g c gives =
+    rotate_steady g.D.Watched c.args.self.now.core c.seal_active.new.self.core c.args.self.now.disk c.seal_active.new.self.disk
+    g.D.Held.HeldFile.bytes c.seal_active.result c.seal_active.ensures.as_rotated gives
 
 pub returns-in-None-clause-collects : goal.returns-in-None-clause-collects
 returns-in-None-clause-collects g c h l is has collects =

@@ -14,3 +14,6 @@ returns-in-Ok-clause-after g c s stands = record {
 pub returns-in-Err-clause-carries : goal.returns-in-Err-clause-carries
 returns-in-Err-clause-carries g c running s stands =
     c.in-Err.ensures.carries s stands
+
+pub returns-in-Ok-clause-sure : goal.returns-in-Ok-clause-sure
+returns-in-Ok-clause-sure g c running s stands was = c.in-Ok.ensures.sure s stands was

@@ -8,6 +8,8 @@ use Rattle.vl_replay.proofs.Openings.Begun.{opened_holds, opened_passes, opened_
 use Rattle.vl_script_model.specs.laws.Recovering.{refused_not}
 use Rattle.vl_script_model.specs.laws.Starting.{at_most}
 use Rattle.vl_space.specs.Removing.{Removes}
+use Rattle.vl_disk.specs.laws.Counting.{none_counted}
+use Rattle.vl_replay_laws.specs.laws.Names.Unfailing.{none_reads}
 use Rattle.vl_replay.proofs.replayer.Replayer.new.Goals as goal
 
 pub returns-in-Err-clause-refused : goal.returns-in-Err-clause-refused
@@ -77,3 +79,17 @@ returns-in-Ok-clause-holds g c s starts openable =
     (starts.openable openable) starts.is_read starts.shown)
     (c.in-Ok.ensures.repaired starts.state starts.read starts.told starts.is_read)
     (c.in-Ok.ensures.calls starts.state starts.read starts.found starts.strays starts.told starts.is_read starts.are_strays)
+
+-- ---- what fails beside the disk
+
+pub returns-in-Ok-clause-steady : goal.returns-in-Ok-clause-steady
+returns-in-Ok-clause-steady g c sure = none_counted
+
+pub returns-in-Err-clause-steady : goal.returns-in-Err-clause-steady
+returns-in-Err-clause-steady g c sure = c.in-Err.ensures.steady sure
+
+pub returns-in-Ok-clause-unfailing : goal.returns-in-Ok-clause-unfailing
+returns-in-Ok-clause-unfailing g c s starts gives = record {
+  gives = (c.in-Ok.ensures.meanwhile starts.state starts.read starts.told starts.is_read).time.steady gives;
+  reads = none_reads _ c.new.result.items c.new.ensures.items;
+}

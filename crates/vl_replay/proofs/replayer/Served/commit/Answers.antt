@@ -1,5 +1,5 @@
 -- The commit is answered as the ruling on it has it, and carried out so.
-use Rattle.std.specs.Prelude.{Ok, Err, Option}
+use Rattle.std.specs.Prelude.{Ok, Err, None, Option}
 use Rattle.std.proofs.Common.{◌≡◌, ap, refl, subst, sym, ◌∙◌}
 use Rattle.vl_engine_laws.specs.Represents as engine
 use Rattle.vl_engine_model.specs.Rulings.Commit as rulings
@@ -22,6 +22,9 @@ use Rattle.vl_replay_laws.specs.laws.Names.Returning.{read_only_returns, returns
 use Rattle.vl_space.specs.Removing.{Removes}
 use Rattle.vl_replay_laws.specs.laws.Lines.Ruled.{committed_layout}
 use Rattle.vl_script_model.specs.laws.Halting.{err_reads_well}
+use Rattle.vl_reads.specs.declared.txn.Txn.{Txn}
+use Rattle.vl_replay_laws.specs.declared.open.Thing.TheVariants.{Transaction, View}
+use Rattle.vl_replay_laws.specs.laws.Names.Unfailing.{back_reads, same_reads, taken_reads}
 use Rattle.vl_replay.proofs.replayer.Served.commit.Goals as goal
 
 pub returns-in-None-clause-makes : goal.returns-in-None-clause-makes
@@ -574,3 +577,88 @@ returns-in_err-put-in-Err-Exhausted-clause-reads_well g c =
 pub returns-in_err-put-in-Err-Full-clause-reads_well : goal.returns-in_err-put-in-Err-Full-clause-reads_well
 returns-in_err-put-in-Err-Full-clause-reads_well g c =
     err_reads_well c.from_residual-in_err-put-in-Err-Full.result c.from_residual-in_err-put-in-Err-Full.ensures.1
+
+-- ---- what reads then never fails
+
+pub returns-in-None-clause-sure : goal.returns-in-None-clause-sure
+returns-in-None-clause-sure g c s stands none =
+    let bytes = g.D.Held.HeldFile.bytes in
+    let seen = g.D.Watched.told c.args.self.now.engine.disk in
+    let core = c.args.self.now.engine.core in
+    let os = c.args.self.now.opens.items in
+    let left = c.take_out.new.opens.items in
+    let taken = taken_as bytes seen core os left s stands c.as_slice.result.now c.args.name c.as_slice.ensures _ c.in-None.ensures in
+    taken_reads _ os left c.args.name None taken none
+
+pub returns-in-Some-View-clause-sure : goal.returns-in-Some-View-clause-sure
+returns-in-Some-View-clause-sure g c s stands none =
+    let bytes = g.D.Held.HeldFile.bytes in
+    let seen = g.D.Watched.told c.args.self.now.engine.disk in
+    let core = c.args.self.now.engine.core in
+    let os = c.args.self.now.opens.items in
+    let left = c.take_out.new.opens.items in
+    let taken = taken_out bytes seen core os left s stands c.as_slice.result.now c.args.name c.as_slice.ensures _ _
+    c.in-Some-View.field-0-is c.in-Some-View.ensures in
+    same_reads _ _ _ c.in_ok-put-in-Some-View.ensures
+    (back_reads _ os left c.args.name (View c.in-Some-View.view) (View c.in-Some-View.view) taken refl none)
+
+pub returns-in-Ok-At-clause-sure : goal.returns-in-Ok-At-clause-sure
+returns-in-Ok-At-clause-sure g c s stands none =
+    let bytes = g.D.Held.HeldFile.bytes in
+    let seen = g.D.Watched.told c.args.self.now.engine.disk in
+    let core = c.args.self.now.engine.core in
+    let os = c.args.self.now.opens.items in
+    let left = c.take_out.new.opens.items in
+    let taken = taken_out bytes seen core os left s stands c.as_slice.result.now c.args.name c.as_slice.ensures _ _
+    c.in-Some-Transaction.field-0-is c.in-Some-Transaction.ensures in
+    taken_reads _ os left c.args.name _ taken none
+
+pub returns-in-Ok-Nothing-clause-sure : goal.returns-in-Ok-Nothing-clause-sure
+returns-in-Ok-Nothing-clause-sure g c s stands none =
+    let bytes = g.D.Held.HeldFile.bytes in
+    let seen = g.D.Watched.told c.args.self.now.engine.disk in
+    let core = c.args.self.now.engine.core in
+    let os = c.args.self.now.opens.items in
+    let left = c.take_out.new.opens.items in
+    let taken = taken_out bytes seen core os left s stands c.as_slice.result.now c.args.name c.as_slice.ensures _ _
+    c.in-Some-Transaction.field-0-is c.in-Some-Transaction.ensures in
+    taken_reads _ os left c.args.name _ taken none
+
+pub returns-in-Err-Conflict-clause-sure : goal.returns-in-Err-Conflict-clause-sure
+returns-in-Err-Conflict-clause-sure g c s stands none =
+    let bytes = g.D.Held.HeldFile.bytes in
+    let seen = g.D.Watched.told c.args.self.now.engine.disk in
+    let core = c.args.self.now.engine.core in
+    let os = c.args.self.now.opens.items in
+    let left = c.take_out.new.opens.items in
+    let taken = taken_out bytes seen core os left s stands c.as_slice.result.now c.args.name c.as_slice.ensures _ _
+    c.in-Some-Transaction.field-0-is c.in-Some-Transaction.ensures in
+    taken_reads _ os left c.args.name _ taken none
+
+pub returns-in-Err-Exhausted-clause-sure : goal.returns-in-Err-Exhausted-clause-sure
+returns-in-Err-Exhausted-clause-sure g c s stands none =
+    let bytes = g.D.Held.HeldFile.bytes in
+    let seen = g.D.Watched.told c.args.self.now.engine.disk in
+    let core = c.args.self.now.engine.core in
+    let os = c.args.self.now.opens.items in
+    let left = c.take_out.new.opens.items in
+    let txn = c.in-Some-Transaction.txn in
+    let taken = taken_out bytes seen core os left s stands c.as_slice.result.now c.args.name c.as_slice.ensures _ _
+    c.in-Some-Transaction.field-0-is c.in-Some-Transaction.ensures in
+    same_reads _ _ _ c.in_ok-put-in-Err-Exhausted.ensures
+    (back_reads _ os left c.args.name (Transaction txn) (Transaction c.in-Err-Exhausted.txn) taken
+    (ap (λ (t : Txn _ _). Transaction t) (c.in-Err-Exhausted.ensures.back c.in-Err-Exhausted.txn (handed_so txn _ _ c.in-Err-Exhausted.field-0-is))) none)
+
+pub returns-in-Err-Full-clause-sure : goal.returns-in-Err-Full-clause-sure
+returns-in-Err-Full-clause-sure g c s stands none =
+    let bytes = g.D.Held.HeldFile.bytes in
+    let seen = g.D.Watched.told c.args.self.now.engine.disk in
+    let core = c.args.self.now.engine.core in
+    let os = c.args.self.now.opens.items in
+    let left = c.take_out.new.opens.items in
+    let txn = c.in-Some-Transaction.txn in
+    let taken = taken_out bytes seen core os left s stands c.as_slice.result.now c.args.name c.as_slice.ensures _ _
+    c.in-Some-Transaction.field-0-is c.in-Some-Transaction.ensures in
+    same_reads _ _ _ c.in_ok-put-in-Err-Full.ensures
+    (back_reads _ os left c.args.name (Transaction txn) (Transaction c.in-Err-Full.txn) taken
+    (ap (λ (t : Txn _ _). Transaction t) (c.in-Err-Full.ensures.back c.in-Err-Full.txn (handed_so txn _ _ c.in-Err-Full.field-0-is))) none)

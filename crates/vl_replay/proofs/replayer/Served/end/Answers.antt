@@ -1,6 +1,6 @@
 -- What the name stood for has ended, and the name is free.
 use Rattle.std.proofs.Common.{ap, refl, subst, sym}
-use Rattle.std.specs.Prelude.{Option}
+use Rattle.std.specs.Prelude.{None, Option}
 use Rattle.vl_engine_model.specs.Store.Dispatch.{drop_by}
 use Rattle.vl_script_model.specs.Sequential.{history_of}
 use Rattle.vl_replay_laws.specs.laws.Names.BeginMaking.{bare_of, transaction_ends, unnamed_makes, view_ends}
@@ -12,6 +12,7 @@ use Rattle.vl_engine_model.specs.Rulings.Commit.{Transaction as ATxn}
 use Rattle.vl_engine_model.specs.Store.Things.{Thing, thing_of}
 use Rattle.vl_replay_laws.specs.laws.Names.Making.{its, itself}
 use Rattle.vl_replay_laws.specs.Standing.{open_in}
+use Rattle.vl_replay_laws.specs.laws.Names.Unfailing.{taken_reads}
 use Rattle.vl_replay.proofs.replayer.Served.end.Goals as goal
 
 pub returns-in-None-clause-makes : goal.returns-in-None-clause-makes
@@ -101,3 +102,37 @@ returns-clause-removes g c s stands none no_pass removes =
     (sym (ap (λ (o : Option Thing). (drop_by s.store c.args.name o).state.layout) there))
     (subst (λ (u : ATxn). Removes c.forget.new.self.core c.forget.new.self.removing (ended u.ticket s.store.layout)) is.same
     (c.forget.ensures.removes s.store.layout removes))
+
+-- ---- what reads then never fails
+
+pub returns-in-None-clause-sure : goal.returns-in-None-clause-sure
+returns-in-None-clause-sure g c s stands none =
+    let bytes = g.D.Held.HeldFile.bytes in
+    let seen = g.D.Watched.told c.args.self.now.engine.disk in
+    let core = c.args.self.now.engine.core in
+    let os = c.args.self.now.opens.items in
+    let left = c.take_out.new.opens.items in
+    let taken = taken_as bytes seen core os left s stands c.as_slice.result.now c.args.name c.as_slice.ensures _ c.in-None.ensures in
+    taken_reads _ os left c.args.name None taken none
+
+pub returns-in-Some-View-clause-sure : goal.returns-in-Some-View-clause-sure
+returns-in-Some-View-clause-sure g c s stands none =
+    let bytes = g.D.Held.HeldFile.bytes in
+    let seen = g.D.Watched.told c.args.self.now.engine.disk in
+    let core = c.args.self.now.engine.core in
+    let os = c.args.self.now.opens.items in
+    let left = c.take_out.new.opens.items in
+    let taken = taken_out bytes seen core os left s stands c.as_slice.result.now c.args.name c.as_slice.ensures _ _
+    c.in-Some-View.field-0-is c.in-Some-View.ensures in
+    taken_reads _ os left c.args.name _ taken none
+
+pub returns-clause-sure : goal.returns-clause-sure
+returns-clause-sure g c s stands none =
+    let bytes = g.D.Held.HeldFile.bytes in
+    let seen = g.D.Watched.told c.args.self.now.engine.disk in
+    let core = c.args.self.now.engine.core in
+    let os = c.args.self.now.opens.items in
+    let left = c.take_out.new.opens.items in
+    let taken = taken_out bytes seen core os left s stands c.as_slice.result.now c.args.name c.as_slice.ensures _ _
+    c.in-Some-Transaction.field-0-is c.in-Some-Transaction.ensures in
+    taken_reads _ os left c.args.name _ taken none

@@ -10,6 +10,8 @@ use Rattle.vl_replay_laws.specs.laws.Names.Placing.{free_returns, in_place, out_
 use Rattle.vl_replay_laws.specs.laws.Names.PastMaking.{past_counted, past_not_by_disk, past_sound, past_undamaged, txn_past_makes, view_past_makes}
 use Rattle.vl_replay_laws.specs.laws.Names.Untabled.{reads_none}
 use Rattle.vl_replay.proofs.AsCalled.Naming.{none_read_back, txn_reads_back, view_reads_back}
+use Rattle.vl_disk.specs.laws.Counting.{never_fails}
+use Rattle.vl_replay_laws.specs.laws.Names.Unfailing.{its_reads, reads_in_place}
 use Rattle.vl_replay.proofs.replayer.Served.get_at.Goals as goal
 
 pub returns-in_default-clause-makes : goal.returns-in_default-clause-makes
@@ -73,7 +75,9 @@ returns-in-View-clause-undamaged g c s stands =
 
 pub returns-in-View-clause-fault : goal.returns-in-View-clause-fault
 returns-in-View-clause-fault g c =
-    past_counted c.get_at.result c.get_at_answer.result c.get_at_answer.ensures g.D.Reader.Reader.faults _ _ c.get_at.ensures.cause
+    past_counted c.get_at.result c.get_at_answer.result c.get_at_answer.ensures g.D.Reader.Reader.faults _ _ c.get_at.ensures.cause _
+    (its_reads _ c.args.self.now.opens.items c.deref.result.now c.deref.ensures.value c.as_slice.result.now
+    c.args.name c.as_slice.ensures c.in-Some.at (sym c.place.ensures ∙ c.in-Some.is) c.index_mut.result.now c.index_mut.ensures.value (View c.in-View.view) c.in-View.is)
 
 pub returns-clause-makes : goal.returns-clause-makes
 returns-clause-makes g c s stands =
@@ -127,7 +131,9 @@ returns-clause-undamaged g c s stands =
 pub returns-clause-fault : goal.returns-clause-fault
 returns-clause-fault g c =
     past_counted c.get_at-in-Transaction.result c.get_at_answer-in-Transaction.result c.get_at_answer-in-Transaction.ensures
-    g.D.Reader.Reader.faults _ _ c.get_at-in-Transaction.ensures.cause
+    g.D.Reader.Reader.faults _ _ c.get_at-in-Transaction.ensures.cause _
+    (its_reads _ c.args.self.now.opens.items c.deref.result.now c.deref.ensures.value c.as_slice.result.now
+    c.args.name c.as_slice.ensures c.in-Some.at (sym c.place.ensures ∙ c.in-Some.is) c.index_mut.result.now c.index_mut.ensures.value (Transaction c.in-Transaction.txn) c.in-Transaction.is)
 
 pub returns-in-View-clause-not_the_disk : goal.returns-in-View-clause-not_the_disk
 returns-in-View-clause-not_the_disk g c = past_not_by_disk c.get_at.result c.get_at_answer.result c.get_at_answer.ensures
@@ -174,3 +180,22 @@ returns-clause-as_called g c =
       names = c.get_at-in-Transaction.ensures.fault;
       looks = c.get_at-in-Transaction.ensures.looks;
     })
+
+-- ---- what reads then never fails
+
+pub returns-in_default-clause-sure : goal.returns-in_default-clause-sure
+returns-in_default-clause-sure g c s stands none = none
+
+pub returns-in-View-clause-sure : goal.returns-in-View-clause-sure
+returns-in-View-clause-sure g c s stands none =
+    reads_in_place _ c.args.self.now.opens.items c.deref.result.now c.deref.ensures.value c.as_slice.result.now
+    c.args.name c.as_slice.ensures c.in-Some.at (sym c.place.ensures ∙ c.in-Some.is) c.index_mut.result.now c.index_mut.ensures.value
+    stands.names.once (View c.in-View.view) (View c.get_at.new.self) c.in-View.is none
+    (λ sure. never_fails _ _ _ c.get_at.ensures.cause sure)
+
+pub returns-clause-sure : goal.returns-clause-sure
+returns-clause-sure g c s stands none =
+    reads_in_place _ c.args.self.now.opens.items c.deref.result.now c.deref.ensures.value c.as_slice.result.now
+    c.args.name c.as_slice.ensures c.in-Some.at (sym c.place.ensures ∙ c.in-Some.is) c.index_mut.result.now c.index_mut.ensures.value
+    stands.names.once (Transaction c.in-Transaction.txn) (Transaction c.get_at-in-Transaction.new.self) c.in-Transaction.is none
+    (λ sure. never_fails _ _ _ c.get_at-in-Transaction.ensures.cause sure)

@@ -11,6 +11,8 @@ use Rattle.vl_replay_laws.specs.laws.Names.Placing.{free_returns, in_place, out_
 use Rattle.vl_replay_laws.specs.laws.Names.ReadMaking.{call_counted, call_sound, call_undamaged, txn_read_makes, view_read_makes}
 use Rattle.vl_replay_laws.specs.laws.Names.Untabled.{reads_none}
 use Rattle.vl_replay.proofs.AsCalled.Naming.{none_read, txn_reads, view_reads}
+use Rattle.vl_disk.specs.laws.Counting.{never_fails}
+use Rattle.vl_replay_laws.specs.laws.Names.Unfailing.{its_reads, reads_in_place}
 use Rattle.vl_replay.proofs.replayer.Served.read.Goals as goal
 
 pub returns-in_default-clause-makes : goal.returns-in_default-clause-makes
@@ -75,7 +77,9 @@ returns-in-View-clause-undamaged g c s stands =
 
 pub returns-in-View-clause-fault : goal.returns-in-View-clause-fault
 returns-in-View-clause-fault g c =
-    call_counted (value_answer c.args.with_tag) c.get.result c.read_answer.result c.read_answer.ensures g.D.Reader.Reader.faults _ _ c.get.ensures.cause
+    call_counted (value_answer c.args.with_tag) c.get.result c.read_answer.result c.read_answer.ensures g.D.Reader.Reader.faults _ _ c.get.ensures.cause _
+    (its_reads _ c.args.self.now.opens.items c.deref.result.now c.deref.ensures.value c.as_slice.result.now
+    c.args.name c.as_slice.ensures c.in-Some.at (sym c.place.ensures ∙ c.in-Some.is) c.index_mut.result.now c.index_mut.ensures.value (View c.in-View.view) c.in-View.is)
 
 pub returns-clause-makes : goal.returns-clause-makes
 returns-clause-makes g c s stands =
@@ -131,7 +135,9 @@ returns-clause-undamaged g c s stands =
 pub returns-clause-fault : goal.returns-clause-fault
 returns-clause-fault g c =
     call_counted (value_answer c.args.with_tag) c.get-in-Transaction.result c.read_answer-in-Transaction.result
-    c.read_answer-in-Transaction.ensures g.D.Reader.Reader.faults _ _ c.get-in-Transaction.ensures.cause
+    c.read_answer-in-Transaction.ensures g.D.Reader.Reader.faults _ _ c.get-in-Transaction.ensures.cause _
+    (its_reads _ c.args.self.now.opens.items c.deref.result.now c.deref.ensures.value c.as_slice.result.now
+    c.args.name c.as_slice.ensures c.in-Some.at (sym c.place.ensures ∙ c.in-Some.is) c.index_mut.result.now c.index_mut.ensures.value (Transaction c.in-Transaction.txn) c.in-Transaction.is)
 
 -- ---- what it is answered, whatever the disk holds
 
@@ -170,3 +176,22 @@ returns-clause-as_called g c =
       own = c.get-in-Transaction.ensures.own;
       looks = λ none files lies. c.get-in-Transaction.ensures.looks files lies none;
     })
+
+-- ---- what reads then never fails
+
+pub returns-in_default-clause-sure : goal.returns-in_default-clause-sure
+returns-in_default-clause-sure g c s stands none = none
+
+pub returns-in-View-clause-sure : goal.returns-in-View-clause-sure
+returns-in-View-clause-sure g c s stands none =
+    reads_in_place _ c.args.self.now.opens.items c.deref.result.now c.deref.ensures.value c.as_slice.result.now
+    c.args.name c.as_slice.ensures c.in-Some.at (sym c.place.ensures ∙ c.in-Some.is) c.index_mut.result.now c.index_mut.ensures.value
+    stands.names.once (View c.in-View.view) (View c.get.new.self) c.in-View.is none
+    (λ sure. never_fails _ _ _ c.get.ensures.cause sure)
+
+pub returns-clause-sure : goal.returns-clause-sure
+returns-clause-sure g c s stands none =
+    reads_in_place _ c.args.self.now.opens.items c.deref.result.now c.deref.ensures.value c.as_slice.result.now
+    c.args.name c.as_slice.ensures c.in-Some.at (sym c.place.ensures ∙ c.in-Some.is) c.index_mut.result.now c.index_mut.ensures.value
+    stands.names.once (Transaction c.in-Transaction.txn) (Transaction c.get-in-Transaction.new.self) c.in-Transaction.is none
+    (λ sure. never_fails _ _ _ c.get-in-Transaction.ensures.cause sure)

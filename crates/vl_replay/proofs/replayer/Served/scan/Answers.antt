@@ -11,6 +11,8 @@ use Rattle.vl_replay_laws.specs.laws.Names.ReadMaking.{call_counted, call_sound,
 use Rattle.vl_replay_laws.specs.laws.Names.ScanMaking.{txn_scan_makes, view_scan_makes}
 use Rattle.vl_replay_laws.specs.laws.Names.Untabled.{reads_none}
 use Rattle.vl_replay.proofs.AsCalled.Naming.{none_scanned, txn_scans, view_scans}
+use Rattle.vl_disk.specs.laws.Counting.{never_fails}
+use Rattle.vl_replay_laws.specs.laws.Names.Unfailing.{its_reads, reads_in_place}
 use Rattle.vl_replay.proofs.replayer.Served.scan.Goals as goal
 use Rattle.vl_script.specs.declared.answer.Answer.TheVariants as answers
 
@@ -81,7 +83,9 @@ returns-in-View-clause-undamaged g c s stands =
 pub returns-in-View-clause-fault : goal.returns-in-View-clause-fault
 returns-in-View-clause-fault g c =
     call_counted (λ rows. answers.Rows rows) c.scan.result c.scan_answer.result c.scan_answer.ensures
-    g.D.Reader.Reader.faults _ _ c.scan.ensures.cause
+    g.D.Reader.Reader.faults _ _ c.scan.ensures.cause _
+    (its_reads _ c.args.self.now.opens.items c.deref.result.now c.deref.ensures.value c.as_slice.result.now
+    c.args.name c.as_slice.ensures c.in-Some.at (sym c.place.ensures ∙ c.in-Some.is) c.index_mut.result.now c.index_mut.ensures.value (View c.in-View.view) c.in-View.is)
 
 pub returns-clause-makes : goal.returns-clause-makes
 returns-clause-makes g c s stands =
@@ -142,7 +146,9 @@ returns-clause-undamaged g c s stands =
 pub returns-clause-fault : goal.returns-clause-fault
 returns-clause-fault g c =
     call_counted (λ rows. answers.Rows rows) c.scan-in-Transaction.result c.scan_answer-in-Transaction.result
-    c.scan_answer-in-Transaction.ensures g.D.Reader.Reader.faults _ _ c.scan-in-Transaction.ensures.cause
+    c.scan_answer-in-Transaction.ensures g.D.Reader.Reader.faults _ _ c.scan-in-Transaction.ensures.cause _
+    (its_reads _ c.args.self.now.opens.items c.deref.result.now c.deref.ensures.value c.as_slice.result.now
+    c.args.name c.as_slice.ensures c.in-Some.at (sym c.place.ensures ∙ c.in-Some.is) c.index_mut.result.now c.index_mut.ensures.value (Transaction c.in-Transaction.txn) c.in-Transaction.is)
 
 -- ---- what it is answered, whatever the disk holds
 
@@ -180,3 +186,22 @@ returns-clause-as_called g c =
       near = c.scan-in-Transaction.ensures.near;
       names = c.scan-in-Transaction.ensures.fault;
     })
+
+-- ---- what reads then never fails
+
+pub returns-in_default-clause-sure : goal.returns-in_default-clause-sure
+returns-in_default-clause-sure g c s stands none = none
+
+pub returns-in-View-clause-sure : goal.returns-in-View-clause-sure
+returns-in-View-clause-sure g c s stands none =
+    reads_in_place _ c.args.self.now.opens.items c.deref.result.now c.deref.ensures.value c.as_slice.result.now
+    c.args.name c.as_slice.ensures c.in-Some.at (sym c.place.ensures ∙ c.in-Some.is) c.index_mut.result.now c.index_mut.ensures.value
+    stands.names.once (View c.in-View.view) (View c.scan.new.self) c.in-View.is none
+    (λ sure. never_fails _ _ _ c.scan.ensures.cause sure)
+
+pub returns-clause-sure : goal.returns-clause-sure
+returns-clause-sure g c s stands none =
+    reads_in_place _ c.args.self.now.opens.items c.deref.result.now c.deref.ensures.value c.as_slice.result.now
+    c.args.name c.as_slice.ensures c.in-Some.at (sym c.place.ensures ∙ c.in-Some.is) c.index_mut.result.now c.index_mut.ensures.value
+    stands.names.once (Transaction c.in-Transaction.txn) (Transaction c.scan-in-Transaction.new.self) c.in-Transaction.is none
+    (λ sure. never_fails _ _ _ c.scan-in-Transaction.ensures.cause sure)

@@ -1,10 +1,10 @@
 -- A sweep is answered as its ruling has it, and carried out so.
 use Rattle.std.proofs.Common.{sym, ◌∙◌, subst}
-use Rattle.std.specs.Prelude.{OnOk, Result}
+use Rattle.std.specs.Prelude.{None, OnOk, Result}
 use Rattle.vl_engine_laws.specs.Represents as engine
 use Rattle.vl_space.specs.Collecting.{Collects}
 use Rattle.vl_engine_laws.specs.Lent.{StandsOpen}
-use Rattle.vl_space.specs.Sweeping.{sweep_outcome}
+use Rattle.vl_space.specs.Sweeping.{sweep_outcome, up_to}
 use Rattle.vl_engine_model.specs.Rulings.Sweep.{sweep_ruling}
 use Rattle.vl_engine_model.specs.Store.Dispatch.{sweep_by}
 use Rattle.vl_script_model.specs.Halts.{HaltsByRead}
@@ -20,6 +20,7 @@ use Rattle.vl_replay_laws.specs.laws.Names.Serving.{decides_all, represents}
 use Rattle.vl_replay_laws.specs.laws.Names.SweepMaking.{sweep_cause, sweep_leaves, sweep_makes, sweep_sound, sweep_sweeps}
 use Rattle.vl_replay_laws.specs.laws.Passes.Moving.{decides_weaker}
 use Rattle.vl_replay.proofs.AsCalled.Lines.{sweep_reads_well}
+use Rattle.vl_space.specs.laws.Sweeps.Steady.{sweep_steady}
 use Rattle.vl_replay.proofs.replayer.Served.sweep.Goals as goal
 
 pub returns-clause-makes : goal.returns-clause-makes
@@ -121,3 +122,12 @@ returns-clause-carries g c s stands =
 
 pub returns-clause-reads_well : goal.returns-clause-reads_well
 returns-clause-reads_well g c = sweep_reads_well c.sweep.result c.sweep_answer.result c.sweep_answer.ensures
+
+-- ---- what never fails
+
+pub returns-clause-steady : goal.returns-clause-steady
+returns-clause-steady g c gives =
+    let old = c.args.self.now.engine in
+    let new = c.sweep.new.self in
+    sweep_steady g.D.Watched g.D.Writer.Writer (up_to None old.core.back.epoch old.removing.pins) old.disk new.disk old.core new.core
+    old.removing new.removing c.sweep.result c.sweep.ensures.as_swept gives

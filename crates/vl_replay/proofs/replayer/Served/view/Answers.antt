@@ -14,6 +14,8 @@ use Rattle.vl_space.specs.Removing.{Removes}
 use Rattle.vl_engine_model.specs.declared.layout.Layout.{Layout}
 use Rattle.vl_engine_model.specs.Rulings.Begin.{TooMany}
 use Rattle.vl_replay_laws.specs.laws.Lines.Ruled.{begun_layout}
+use Rattle.vl_replay_laws.specs.laws.Names.Unfailing.{put_reads, same_reads}
+use Rattle.vl_replay_laws.specs.declared.open.Thing.TheVariants.{View}
 use Rattle.vl_replay.proofs.replayer.Served.view.Goals as goal
 use Rattle.vl_script.specs.declared.answer.Answer.TheVariants as answers
 use Rattle.vl_script.specs.declared.line.Line.TheVariants as lines
@@ -71,3 +73,17 @@ returns-in-Err-TooMany-clause-removes g c s stands bare removes =
     ((rw c.in-Err-TooMany.field-0-is at (c.in-Err-TooMany.ensures.removes (history_of s) s.store.layout stands.engine.fronts
     removes)).answered
     TooMany refl).1
+
+-- ---- what reads then never fails
+
+pub returns-in-Ok-clause-sure : goal.returns-in-Ok-clause-sure
+returns-in-Ok-clause-sure g c s stands bare was =
+    let os = c.args.self.now.opens.items in
+    let free = unread_of g.D.Held.HeldFile.bytes (history_of s) s.store.layout (open_in os c.args.name) (thing_of s.store c.args.name)
+    (stands.names.each c.args.name) bare in
+    same_reads _ _ _ c.in_ok-put-in-Ok.ensures
+    (put_reads _ os (record { name = c.args.name; thing = View c.in-Ok.view }) free was.reads
+    (c.in-Ok.ensures.faults.never_fails was.gives))
+
+pub returns-in-Err-TooMany-clause-sure : goal.returns-in-Err-TooMany-clause-sure
+returns-in-Err-TooMany-clause-sure g c s stands bare was = was.reads

@@ -7,7 +7,7 @@ use Rattle.vl_engine_model.specs.Store.Lines.{Name}
 use Rattle.vl_engine_model.specs.Store.Dispatch.{batch_by}
 use Rattle.vl_engine_model.specs.Store.Lines as store_lines
 use Rattle.vl_engine_model.specs.Store.Things.{thing_of}
-use Rattle.vl_script_model.specs.Halts.{HaltsByDamage}
+use Rattle.vl_script_model.specs.Halts.{HaltsByDamage, HaltsByReader}
 use Rattle.vl_replay_laws.specs.Passing.{Passes}
 use Rattle.vl_script_model.specs.declared.fails.Halt.{Halt}
 use Rattle.vl_script.specs.declared.answer.Answer.{Answer}
@@ -18,6 +18,7 @@ use Rattle.vl_replay_laws.specs.laws.Passes.Batching.{batch_makes, batch_unknown
 use Rattle.vl_replay_laws.specs.laws.Passes.Undamaged.{undamaged}
 use Rattle.vl_replay.proofs.AsCalled.Going.{batch_answered, no_counts, out_of_memory, passing_weaker, some_of}
 use Rattle.vl_replay.specs.AsCalled.{AnswersBatch, batch_answer}
+use Rattle.vl_replay.proofs.AsCalled.Passing.{passing_fails}
 use Rattle.vl_replay.proofs.replayer.collect.batch.Goals as goal
 
 pub returns-in_default-clause-makes : goal.returns-in_default-clause-makes
@@ -180,3 +181,12 @@ returns-clause-as_called g c =
       },
       ap Err c.halt_at.ensures,
     ))
+
+-- ---- what failed
+
+pub returns-clause-fault : goal.returns-clause-fault
+returns-clause-fault g c by =
+    passing_fails g.D.Reader.Reader.faults _ _ _ c.in_ok-reader.reader.looks c.next.new.looks c.in_ok-reader.reader.files c.next.new.files
+    (g.D.Watched.gives_steady c.args.served.now.engine.disk) c.in_ok-reader.ensures.looks.never_fails
+    c.in_ok-reader.ensures.files.never_fails c.in-Err.fault c.in-Err.ensures.cause
+    (subst (λ (h : Halt). HaltsByReader {T = Answer} (Err h)) c.halt_at.ensures by)

@@ -151,3 +151,11 @@ returns-in-None-clause-removes g c s stands =
     c.take_pass.new.passing c.take_pass.result c.take_pass.ensures c.in-None.is in
     c.end.ensures.removes s (record { serves = stands.serves; merges = stands.merges })
     (other_named bytes s.store.things s.store.layout c.args.name c.args.passing.now stands.passes.is_open other) stands.removes
+
+-- ---- what reads then never fails
+
+pub returns-in-Some-clause-sure : goal.returns-in-Some-clause-sure
+returns-in-Some-clause-sure g c s stands none = none
+
+pub returns-in-None-clause-sure : goal.returns-in-None-clause-sure
+returns-in-None-clause-sure g c s stands none = c.end.ensures.sure s (record { serves = stands.serves; merges = stands.merges }) none

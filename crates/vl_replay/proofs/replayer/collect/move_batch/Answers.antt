@@ -34,6 +34,8 @@ use Rattle.vl_engine_model.specs.declared.layout.Layout.{Layout}
 use Rattle.vl_replay.proofs.AsCalled.Going.{move_answered, out_of_memory}
 use Rattle.vl_replay.specs.AsCalled.{AnswersMove}
 use Rattle.vl_replay_laws.specs.Passing.{move_answer}
+use Rattle.vl_collect.specs.laws.SureReaders.{never_risen}
+use Rattle.vl_replay.proofs.CarryingJob.{risen_counted}
 use Rattle.vl_replay.proofs.replayer.collect.move_batch.Goals as goal
 
 pub returns-in_default-clause-makes : goal.returns-in_default-clause-makes
@@ -1001,3 +1003,13 @@ returns-clause-as_called g c =
       c.in-Err-Halted.ensures.as_moved,
       sym (ap (λ (f : MoveFail). move_answer (Err f)) c.in-Err-Halted.field-0-is),
     ))
+
+-- ---- what failed
+
+pub returns-in-Err-Read-clause-fault : goal.returns-in-Err-Read-clause-fault
+returns-in-Err-Read-clause-fault g c s stands by =
+    let counts = rw c.in-Err-Read.field-0-is at c.in-Err-Read.ensures.cause in
+    record {
+      failed = record { reader = c.relocate.new.looks.reader; some = risen_counted _ _ counts.looks_rose };
+      not_so = λ gives. never_risen _ _ (c.in_ok-reader.ensures.looks.never_fails gives) counts.looks_rose;
+    }

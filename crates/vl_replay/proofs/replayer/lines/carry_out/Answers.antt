@@ -1,6 +1,6 @@
 -- Each line's call makes the line's step.
 use Rattle.std.proofs.Common.{◌≡◌, ap, false, refl, sym, subst, true}
-use Rattle.std.specs.Prelude.{Option, None, Some, Result, Ok, Err, OnOk, is_ok}
+use Rattle.std.specs.Prelude.{Option, None, Some, Result, Ok, Err, OnOk, Vec, is_ok}
 use Rattle.vl_script_model.specs.laws.Texts.{ok_not_err}
 use Rattle.vl_engine_laws.specs.Shown.{Shown}
 use Rattle.vl_engine_model.specs.Store.Reading.{a_transaction, a_view, answer_of, answer_with_tag}
@@ -10,7 +10,7 @@ use Rattle.vl_model.specs.declared.change.Change.TheVariants as changes
 use Rattle.vl_script_model.specs.Durable.{CarriesOut}
 use Rattle.vl_script_model.specs.Failing.{FailsAt, ReadsTables}
 use Rattle.vl_replay_laws.specs.Replaying.{MakesStep, MergesIn}
-use Rattle.vl_replay.specs.Served.{RemovesIn}
+use Rattle.vl_replay.specs.Served.{IsUnfailing, RemovesIn}
 use Rattle.vl_script_model.specs.Sequential.{answer_to, history_of, state_after, step_to}
 use Rattle.vl_script_model.specs.Stored.{IsStopped, IsStored}
 use Rattle.vl_script_model.specs.laws.Growing.{batch_keeps, begin_keeps, get_at_keeps, get_keeps, scan_keeps, stats_keeps, write_keeps}
@@ -34,7 +34,7 @@ use Rattle.vl_replay.proofs.Merges.Handing.{can_answered, can_same}
 use Rattle.vl_replay_laws.specs.laws.Merges.Waiting.{merges_behind, on_ok_of}
 use Rattle.vl_script_model.specs.laws.Halting.{err_reads_well, not_by_disk, out_not_by_disk, out_reads_well}
 use Rattle.vl_replay_laws.specs.laws.Names.Halts.{by_the_reader, damage_is_read, no_cause, not_at, not_by_damage, not_by_read}
-use Rattle.vl_replay_laws.specs.laws.Names.Halts.{not_by_reader, reader_is_read}
+use Rattle.vl_replay_laws.specs.laws.Names.Halts.{less_sure, not_by_reader, reader_is_read}
 use Rattle.vl_replay_laws.specs.laws.Passes.Picking.{pick_keeps_merges}
 use Rattle.vl_replay_laws.specs.laws.Passes.Standing.{passes_behind}
 use Rattle.vl_replay_laws.specs.laws.Passes.Stepping.{passes_stepped}
@@ -44,6 +44,8 @@ use Rattle.vl_replay_laws.specs.Passing.{PassesIn, name_made}
 use Rattle.vl_space.specs.Removing.{Removes}
 use Rattle.vl_replay_laws.specs.laws.Lines.Sweeps.{batch_layout, sweep_keeps_merges, sweep_keeps_passes, sweep_lasts}
 use Rattle.vl_replay_laws.specs.laws.Names.Quiet.{get_at_quiet, get_quiet, scan_quiet, write_quiet}
+use Rattle.vl_replay_laws.specs.laws.Names.Unfailing.{same_reads}
+use Rattle.vl_steps.specs.laws.Steady.{same_steady}
 use Rattle.vl_replay.proofs.replayer.lines.carry_out.Goals as goal
 
 -- ---- a name in use
@@ -171,6 +173,7 @@ returns-in-Get-clause-undamaged g c s stands = c.read.ensures.undamaged s stands
 
 pub returns-in-Get-clause-fault : goal.returns-in-Get-clause-fault
 returns-in-Get-clause-fault g c s stands halts = by_the_reader g.D.Reader.Reader.faults g.D.Writer.Writer.faults
+    (λ (u : IsUnfailing g.D.Watched g.D.Reader.Reader.faults c.args.served.now). u.reads)
     (c.read.ensures.fault halts)
 
 pub returns-in-Get-clause-cause : goal.returns-in-Get-clause-cause
@@ -209,6 +212,7 @@ returns-in-GetTagged-clause-undamaged g c s stands = c.read-in-GetTagged.ensures
 
 pub returns-in-GetTagged-clause-fault : goal.returns-in-GetTagged-clause-fault
 returns-in-GetTagged-clause-fault g c s stands halts = by_the_reader g.D.Reader.Reader.faults g.D.Writer.Writer.faults
+    (λ (u : IsUnfailing g.D.Watched g.D.Reader.Reader.faults c.args.served.now). u.reads)
     (c.read-in-GetTagged.ensures.fault halts)
 
 pub returns-in-GetTagged-clause-cause : goal.returns-in-GetTagged-clause-cause
@@ -250,6 +254,7 @@ returns-in-GetAt-clause-undamaged g c s stands = c.get_at.ensures.undamaged s st
 
 pub returns-in-GetAt-clause-fault : goal.returns-in-GetAt-clause-fault
 returns-in-GetAt-clause-fault g c s stands halts = by_the_reader g.D.Reader.Reader.faults g.D.Writer.Writer.faults
+    (λ (u : IsUnfailing g.D.Watched g.D.Reader.Reader.faults c.args.served.now). u.reads)
     (c.get_at.ensures.fault halts)
 
 pub returns-in-GetAt-clause-cause : goal.returns-in-GetAt-clause-cause
@@ -393,6 +398,7 @@ returns-in-Scan-clause-undamaged g c s stands = c.scan.ensures.undamaged s stand
 
 pub returns-in-Scan-clause-fault : goal.returns-in-Scan-clause-fault
 returns-in-Scan-clause-fault g c s stands halts = by_the_reader g.D.Reader.Reader.faults g.D.Writer.Writer.faults
+    (λ (u : IsUnfailing g.D.Watched g.D.Reader.Reader.faults c.args.served.now). u.reads)
     (c.scan.ensures.fault halts)
 
 pub returns-in-Scan-clause-cause : goal.returns-in-Scan-clause-cause
@@ -888,10 +894,14 @@ returns-in-Drain-clause-undamaged g c s stands =
     (ap name_made c.in-Drain.is))
 
 pub returns-in-Plan-clause-fault : goal.returns-in-Plan-clause-fault
-returns-in-Plan-clause-fault g c s stands = c.plan.ensures.fault s (merging_of stands)
+returns-in-Plan-clause-fault g c s stands halts = less_sure _
+    (λ (u : IsUnfailing g.D.Watched g.D.Reader.Reader.faults c.args.served.now). u.gives)
+    (c.plan.ensures.fault s (merging_of stands) halts)
 
 pub returns-in-Drain-clause-fault : goal.returns-in-Drain-clause-fault
-returns-in-Drain-clause-fault g c s stands = c.plan-in-Drain.ensures.fault s (merging_of stands)
+returns-in-Drain-clause-fault g c s stands halts = less_sure _
+    (λ (u : IsUnfailing g.D.Watched g.D.Reader.Reader.faults c.args.served.now). u.gives)
+    (c.plan-in-Drain.ensures.fault s (merging_of stands) halts)
 
 pub returns-in-Install-clause-makes : goal.returns-in-Install-clause-makes
 returns-in-Install-clause-makes g c s stands =
@@ -1283,7 +1293,8 @@ returns-in-Batch-clause-undamaged g c s stands =
 
 pub returns-in-Batch-clause-fault : goal.returns-in-Batch-clause-fault
 returns-in-Batch-clause-fault g c s stands halts =
-    by_the_reader g.D.Reader.Reader.faults g.D.Writer.Writer.faults (c.batch.ensures.fault halts)
+    by_the_reader g.D.Reader.Reader.faults g.D.Writer.Writer.faults
+    (λ (u : IsUnfailing g.D.Watched g.D.Reader.Reader.faults c.args.served.now). u.gives) (c.batch.ensures.fault halts)
 
 pub returns-in-Batch-clause-cause : goal.returns-in-Batch-clause-cause
 returns-in-Batch-clause-cause g c =
@@ -1337,7 +1348,9 @@ returns-in-Move-clause-undamaged g c s stands =
 
 pub returns-in-Move-clause-fault : goal.returns-in-Move-clause-fault
 returns-in-Move-clause-fault g c s stands halts =
-    by_the_reader g.D.Reader.Reader.faults g.D.Writer.Writer.faults (c.move_batch.ensures.fault s (passing_of stands) halts)
+    by_the_reader g.D.Reader.Reader.faults g.D.Writer.Writer.faults
+    (λ (u : IsUnfailing g.D.Watched g.D.Reader.Reader.faults c.args.served.now). u.gives)
+    (c.move_batch.ensures.fault s (passing_of stands) halts)
 
 pub returns-in-Move-clause-named : goal.returns-in-Move-clause-named
 returns-in-Move-clause-named g c s file stands is =
@@ -1719,3 +1732,152 @@ returns-in-Batch-clause-as_called g c =
     subst (λ (line : Line). AnswersLine g.D.Watched g.D.Held.HeldFile.bytes g.D.Reader.Reader.faults g.D.Writer.Writer c.args.served.now
     c.args.served.now c.args.passing.now line c.batch.result) (sym c.in-Batch.is)
     c.batch.ensures.as_called
+
+-- ---- where nothing was to fail beside the disk, nothing is
+
+if_ok : {T E : Type 0} (r : Result T E) (P Q : Type 0) → (P → Q) → OnOk r P → OnOk r Q
+if_ok (Ok x) P Q so p = so p
+if_ok (Err e) P Q so p = tt
+
+pub returns-in-Some-clause-sure : goal.returns-in-Some-clause-sure
+returns-in-Some-clause-sure g c s stands was = was
+
+pub returns-in-Begin-clause-sure : goal.returns-in-Begin-clause-sure
+returns-in-Begin-clause-sure g c s stands was =
+    if_ok c.begin.result _ _
+    (λ reads. record {
+      gives = same_steady g.D.Watched c.args.served.now.engine.disk c.begin.new.self.engine.disk c.begin.ensures.disk was.gives;
+      reads = reads;
+    })
+    (c.begin.ensures.sure s stands.serves (free_name s c.args.line c.in_default.is (c.in_ok-name.ensures.used s stands)
+    (ap name_made c.in-Begin.is)) was)
+
+pub returns-in-View-clause-sure : goal.returns-in-View-clause-sure
+returns-in-View-clause-sure g c s stands was =
+    if_ok c.view.result _ _
+    (λ reads. record {
+      gives = same_steady g.D.Watched c.args.served.now.engine.disk c.view.new.self.engine.disk c.view.ensures.disk was.gives;
+      reads = reads;
+    })
+    (c.view.ensures.sure s stands.serves (free_name s c.args.line c.in_default.is (c.in_ok-name.ensures.used s stands)
+    (ap name_made c.in-View.is)) was)
+
+pub returns-in-Get-clause-sure : goal.returns-in-Get-clause-sure
+returns-in-Get-clause-sure g c s stands was = on_ok_of c.read.result _ (record {
+  gives = same_steady g.D.Watched c.args.served.now.engine.disk c.read.new.self.engine.disk
+      (ap (λ e. e.disk) c.read.ensures.engine) was.gives;
+  reads = c.read.ensures.sure s stands.serves was.reads;
+})
+
+pub returns-in-GetTagged-clause-sure : goal.returns-in-GetTagged-clause-sure
+returns-in-GetTagged-clause-sure g c s stands was = on_ok_of c.read-in-GetTagged.result _ (record {
+  gives = same_steady g.D.Watched c.args.served.now.engine.disk c.read-in-GetTagged.new.self.engine.disk
+      (ap (λ e. e.disk) c.read-in-GetTagged.ensures.engine) was.gives;
+  reads = c.read-in-GetTagged.ensures.sure s stands.serves was.reads;
+})
+
+pub returns-in-GetAt-clause-sure : goal.returns-in-GetAt-clause-sure
+returns-in-GetAt-clause-sure g c s stands was = on_ok_of c.get_at.result _ (record {
+  gives = same_steady g.D.Watched c.args.served.now.engine.disk c.get_at.new.self.engine.disk
+      (ap (λ e. e.disk) c.get_at.ensures.engine) was.gives;
+  reads = c.get_at.ensures.sure s stands.serves was.reads;
+})
+
+pub returns-in-Set-clause-sure : goal.returns-in-Set-clause-sure
+returns-in-Set-clause-sure g c s stands was = on_ok_of c.write.result _ (record {
+  gives = same_steady g.D.Watched c.args.served.now.engine.disk c.write.new.self.engine.disk
+      (ap (λ e. e.disk) c.write.ensures.engine) was.gives;
+  reads = c.write.ensures.sure s stands.serves was.reads;
+})
+
+pub returns-in-SetTagged-clause-sure : goal.returns-in-SetTagged-clause-sure
+returns-in-SetTagged-clause-sure g c s stands was = on_ok_of c.write-in-SetTagged.result _ (record {
+  gives = same_steady g.D.Watched c.args.served.now.engine.disk c.write-in-SetTagged.new.self.engine.disk
+      (ap (λ e. e.disk) c.write-in-SetTagged.ensures.engine) was.gives;
+  reads = c.write-in-SetTagged.ensures.sure s stands.serves was.reads;
+})
+
+pub returns-in-Delete-clause-sure : goal.returns-in-Delete-clause-sure
+returns-in-Delete-clause-sure g c s stands was = on_ok_of c.write-in-Delete.result _ (record {
+  gives = same_steady g.D.Watched c.args.served.now.engine.disk c.write-in-Delete.new.self.engine.disk
+      (ap (λ e. e.disk) c.write-in-Delete.ensures.engine) was.gives;
+  reads = c.write-in-Delete.ensures.sure s stands.serves was.reads;
+})
+
+pub returns-in-Scan-clause-sure : goal.returns-in-Scan-clause-sure
+returns-in-Scan-clause-sure g c s stands was = on_ok_of c.scan.result _ (record {
+  gives = same_steady g.D.Watched c.args.served.now.engine.disk c.scan.new.self.engine.disk
+      (ap (λ e. e.disk) c.scan.ensures.engine) was.gives;
+  reads = c.scan.ensures.sure s stands.serves was.reads;
+})
+
+pub returns-in-Commit-clause-sure : goal.returns-in-Commit-clause-sure
+returns-in-Commit-clause-sure g c s stands was =
+    if_ok c.commit.result _ _ (λ reads. record { gives = c.commit.ensures.steady was.gives; reads = reads })
+    (c.commit.ensures.sure s stands.serves was.reads)
+
+pub returns-in-Drop-clause-sure : goal.returns-in-Drop-clause-sure
+returns-in-Drop-clause-sure g c s stands was = record {
+  gives = same_steady g.D.Watched c.args.served.now.engine.disk c.end.new.served.engine.disk c.end.ensures.disk was.gives;
+  reads = c.end.ensures.sure s stands was.reads;
+}
+
+pub returns-in-Rotate-clause-sure : goal.returns-in-Rotate-clause-sure
+returns-in-Rotate-clause-sure g c s stands was = on_ok_of c.rotate.result _ (record {
+  gives = c.rotate.ensures.steady was.gives;
+  reads = same_reads _ _ _ (ap (λ (opens : Vec _ _). opens.items) c.rotate.ensures.things) was.reads;
+})
+
+pub returns-in-Flush-clause-sure : goal.returns-in-Flush-clause-sure
+returns-in-Flush-clause-sure g c s stands was = on_ok_of c.flush.result _ (record {
+  gives = c.flush.ensures.steady was.gives;
+  reads = same_reads _ _ _ (ap (λ (opens : Vec _ _). opens.items) c.flush.ensures.things) was.reads;
+})
+
+pub returns-in-Keep-clause-sure : goal.returns-in-Keep-clause-sure
+returns-in-Keep-clause-sure g c s stands was = on_ok_of c.keep.result _ (record {
+  gives = c.keep.ensures.steady was.gives;
+  reads = same_reads _ _ _ (ap (λ (opens : Vec _ _). opens.items) c.keep.ensures.things) was.reads;
+})
+
+pub returns-in-Sweep-clause-sure : goal.returns-in-Sweep-clause-sure
+returns-in-Sweep-clause-sure g c s stands was = on_ok_of c.sweep.result _ (record {
+  gives = c.sweep.ensures.steady was.gives;
+  reads = same_reads _ _ _ (ap (λ (opens : Vec _ _). opens.items) c.sweep.ensures.things) was.reads;
+})
+
+pub returns-in-Plan-clause-sure : goal.returns-in-Plan-clause-sure
+returns-in-Plan-clause-sure g c s stands was = on_ok_of c.plan.result _ (record {
+  gives = c.plan.ensures.steady was.gives;
+  reads = same_reads _ _ _ (ap (λ (opens : Vec _ _). opens.items) c.plan.ensures.things) was.reads;
+})
+
+pub returns-in-Drain-clause-sure : goal.returns-in-Drain-clause-sure
+returns-in-Drain-clause-sure g c s stands was = on_ok_of c.plan-in-Drain.result _ (record {
+  gives = c.plan-in-Drain.ensures.steady was.gives;
+  reads = same_reads _ _ _ (ap (λ (opens : Vec _ _). opens.items) c.plan-in-Drain.ensures.things) was.reads;
+})
+
+pub returns-in-Install-clause-sure : goal.returns-in-Install-clause-sure
+returns-in-Install-clause-sure g c s stands was = on_ok_of c.install.result _ (record {
+  gives = c.install.ensures.steady was.gives;
+  reads = same_reads _ _ _ (ap (λ (opens : Vec _ _). opens.items) c.install.ensures.things) was.reads;
+})
+
+pub returns-in-Move-clause-sure : goal.returns-in-Move-clause-sure
+returns-in-Move-clause-sure g c s stands was = on_ok_of c.move_batch.result _ (record {
+  gives = c.move_batch.ensures.steady was.gives;
+  reads = same_reads _ _ _ (ap (λ (opens : Vec _ _). opens.items) c.move_batch.ensures.things) was.reads;
+})
+
+pub returns-in-Pick-clause-sure : goal.returns-in-Pick-clause-sure
+returns-in-Pick-clause-sure g c s stands was = on_ok_of c.pick.result _ (record {
+  gives = same_steady g.D.Watched c.args.served.now.engine.disk c.pick.new.served.engine.disk c.pick.ensures.disk was.gives;
+  reads = same_reads _ _ _ (ap (λ (opens : Vec _ _). opens.items) c.pick.ensures.things) was.reads;
+})
+
+pub returns-in-Stats-clause-sure : goal.returns-in-Stats-clause-sure
+returns-in-Stats-clause-sure g c s stands was = on_ok_of c.stats.result _ was
+
+pub returns-in-Batch-clause-sure : goal.returns-in-Batch-clause-sure
+returns-in-Batch-clause-sure g c s stands was = on_ok_of c.batch.result _ was

@@ -177,3 +177,11 @@ returns-in-Some-clause-removes g c s stands no_pass removes =
     (c.abandon.ensures.removes (history_of s) s.store.layout o
     (record { stands = stands.serves.engine; opens = merges.opens }) merges.waits.is_open
     (subst (λ (x : _). HasMerge g.D.Writer.Writer bytes x o.job) (sym job) merges.waits.merge) removes))
+
+-- ---- what reads then never fails
+
+pub returns-in-None-clause-sure : goal.returns-in-None-clause-sure
+returns-in-None-clause-sure g c s stands none = c.end.ensures.sure s stands.serves none
+
+pub returns-in-Some-clause-sure : goal.returns-in-Some-clause-sure
+returns-in-Some-clause-sure g c s stands none = none

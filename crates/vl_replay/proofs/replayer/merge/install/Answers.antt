@@ -10,6 +10,7 @@ use Rattle.vl_replay.proofs.Merges.Installing.{answer_as, install_answer, line_s
 use Rattle.vl_replay.proofs.Merges.Installing.{unknown_install, unknown_step, unplanned, was_planned}
 use Rattle.vl_space.specs.Removing.{Removes}
 use Rattle.vl_engine_model.specs.declared.layout.Layout.{Layout}
+use Rattle.vl_steps.specs.laws.Steady.{same_steady}
 use Rattle.vl_replay.proofs.replayer.merge.install.Goals as goal
 
 -- ---- none waits under this name
@@ -447,6 +448,10 @@ returns-in-Err-NoMemory-clause-carries g c s stands =
     })
     (Err why.NoMemory) (answer_as c.install.result c.in-Err-NoMemory.field-0 _ c.in-Err-NoMemory.is c.in-Err-NoMemory.field-0-is)
     c.abandon.new.self.disk c.abandon.ensures.disk
+
+pub returns-in-Err-NoMemory-clause-steady : goal.returns-in-Err-NoMemory-clause-steady
+returns-in-Err-NoMemory-clause-steady g c gives =
+    same_steady g.D.Watched _ _ c.abandon.ensures.disk (c.install.ensures.steady gives)
 
 pub returns-in-Err-Disk-clause-carries : goal.returns-in-Err-Disk-clause-carries
 returns-in-Err-Disk-clause-carries g c s stands =

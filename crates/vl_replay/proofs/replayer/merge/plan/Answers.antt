@@ -43,6 +43,8 @@ use Rattle.vl_replay_laws.specs.laws.Names.BeginMaking.{unread_of}
 use Rattle.vl_replay_laws.specs.laws.Names.Serving.{represents}
 use Rattle.vl_replay.proofs.replayer.merge.plan.Given as given
 use Rattle.vl_space.specs.Removing.{Removes}
+use Rattle.vl_replay_laws.specs.laws.Names.Halts.{less_sure}
+use Rattle.vl_steps.specs.laws.Steady.{same_steady}
 use Rattle.vl_replay.proofs.replayer.merge.plan.Goals as goal
 
 -- ---- another merge waits
@@ -400,11 +402,32 @@ returns-in-Err-clause-undamaged g c s stands bare =
 
 pub returns-in-Err-clause-fault : goal.returns-in-Err-clause-fault
 returns-in-Err-clause-fault g c s stands by =
-    c.make_tables.ensures.fault
+    less_sure _ (subst (λ disk. g.D.Watched.gives_steady disk) (sym c.choose.ensures.disk))
+    (c.make_tables.ensures.fault
     (ap (λ (core : Core _). core.front.halted) c.choose.ensures.core
     ∙ not_halted g.D.Held.HeldFile.bytes c.args.served.now.engine.core (history_of s) s.store.layout
     stands.serves.engine stands.serves.running)
-    (stopped_fault c.make_tables.result c.in-Err.halt c.in-Err.is by)
+    (stopped_fault c.make_tables.result c.in-Err.halt c.in-Err.is by))
+
+-- what never fails then
+
+pub returns-in_err-job-clause-steady : goal.returns-in_err-job-clause-steady
+returns-in_err-job-clause-steady g c gives = same_steady g.D.Watched _ _ c.choose.ensures.disk gives
+
+pub returns-in_default-clause-steady : goal.returns-in_default-clause-steady
+returns-in_default-clause-steady g c gives = same_steady g.D.Watched _ _ c.choose.ensures.disk gives
+
+pub returns-in-Ok-None-clause-steady : goal.returns-in-Ok-None-clause-steady
+returns-in-Ok-None-clause-steady g c gives =
+    c.make_tables.ensures.steady (same_steady g.D.Watched _ _ c.choose.ensures.disk gives)
+
+pub returns-in-Ok-Some-clause-steady : goal.returns-in-Ok-Some-clause-steady
+returns-in-Ok-Some-clause-steady g c gives = same_steady g.D.Watched _ _ c.abandon.ensures.disk
+    (c.make_tables.ensures.steady (same_steady g.D.Watched _ _ c.choose.ensures.disk gives))
+
+pub returns-in-Err-clause-steady : goal.returns-in-Err-clause-steady
+returns-in-Err-clause-steady g c gives = same_steady g.D.Watched _ _ c.abandon-in-Err.ensures.disk
+    (c.make_tables.ensures.steady (same_steady g.D.Watched _ _ c.choose.ensures.disk gives))
 
 pub returns-in-Err-clause-named : goal.returns-in-Err-clause-named
 returns-in-Err-clause-named g c s file stands bare is =

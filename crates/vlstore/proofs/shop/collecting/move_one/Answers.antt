@@ -40,8 +40,7 @@ wanting-requires g c =
     (c.requires.looks c.in-Ok.reader.looks (λ files. c.in-Ok.ensures.blocks files))
     (counted (g.D.Reader.Reader.faults c.in-Ok.reader.looks.reader) (g.D.Reader.Reader.faults c.next.new.looks.reader)
     (g.D.Reader.Reader.faults c.in-Ok.reader.files) (g.D.Reader.Reader.faults c.next.new.files))
-    (g.met.D.Unfailing.unfailing.readers c.in-Ok.reader.looks.reader) (g.met.D.Unfailing.unfailing.readers c.next.new.looks.reader)
-    (g.met.D.Unfailing.unfailing.readers c.in-Ok.reader.files) (g.met.D.Unfailing.unfailing.readers c.next.new.files)
+    (g.met.D.Unfailing.unfailing.readers c.next.new.looks.reader) (g.met.D.Unfailing.unfailing.readers c.next.new.files)
     c.in-Err.fault c.in-Err.ensures.cause
 
 pub returns-in-Ok-Some-clause-on : goal.returns-in-Ok-Some-clause-on

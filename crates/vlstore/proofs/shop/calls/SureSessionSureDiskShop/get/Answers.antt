@@ -1,5 +1,6 @@
 use Rattle.std.proofs.Common.{◌≡◌, ap, subst}
 use Rattle.std.specs.Prelude.{List, IfOk, Option, Some}
+use Rattle.vl_disk.specs.Faults.{never}
 use Rattle.vl_mem.specs.Held.{held_bytes}
 use Rattle.vl_reads.specs.Sees.{Sees}
 use Rattle.vl_model.specs.History.{value_at}
@@ -12,10 +13,9 @@ use Rattle.vlstore.proofs.shop.calls.SureSessionSureDiskShop.get.Goals as goal
 
 pub as_read-requires : goal.as_read-requires
 as_read-requires c =
-    read_sound c.args.key.now 0 0
+    read_sound c.args.key.now never never
     c.get.result c.requires.key c.get.ensures.refused c.get.ensures.cause
-    (sure_disks.readers c.args.txn.now.reader.reader.inner) (sure_disks.readers c.get.new.self.reader.reader.inner)
-    (c.get.ensures.sound c.requires.sees.0 c.requires.sees.1 c.requires.sees.2)
+    (sure_disks.readers c.get.new.self.reader.reader.inner) (c.get.ensures.sound c.requires.sees.0 c.requires.sees.1 c.requires.sees.2)
 
 pub returns-clause-looks : goal.returns-clause-looks
 returns-clause-looks c = looks_itself c.args.self.now.session

@@ -1,4 +1,4 @@
-use Rattle.std.proofs.Common.{refl, ◌∙◌}
+use Rattle.std.proofs.Common.{◌∙◌}
 use Rattle.vlstore.proofs.ShopMerges.{merge_refused}
 use Rattle.vlstore.proofs.Shopping.{looks_aside, no_fault_counted}
 use Rattle.vlstore.proofs.SureDisks.{sure_disks}
@@ -12,7 +12,7 @@ returns-clause-steps g c =
 
 pub returns-clause-refused : goal.returns-clause-refused
 returns-clause-refused g c =
-    merge_refused _ sure_disks _ _ _ (λ reader. refl) (λ writer. refl) c.args.self.now.session c.merge-answer.new.self
+    merge_refused _ sure_disks _ _ _ sure_disks.readers sure_disks.writers c.args.self.now.session c.merge-answer.new.self
     c.number.new.self c.number.ensures.on c.number.ensures.own c.args.self.now.runs c.merge-answer.result c.as_merge.result
     c.as_merge.ensures.refused (c.merge-answer.ensures.refused c.args.self.now.tells)
 
