@@ -1,5 +1,6 @@
 mod BuildLaws
 mod GroupLaws
+mod InWayLaws
 mod MergeLaws
 pub mod Orders
 pub mod Passing

@@ -1,8 +1,10 @@
-ghost use Rattle.std.specs.Prelude.{◌≡◌, ◌≤◌, ◌⊎◌, Bool, OnErr, IfOk, IfErr, MatchResult};
+ghost use Rattle.std.specs.Prelude.{◌≡◌, ◌≤◌, ◌⊎◌, Bool, List, Some, OnErr, IfOk, IfErr, IfSome, MatchResult};
 ghost use Rattle.std.specs.Option.{option_map};
 ghost use Rattle.vl_model.specs.Cursors.{Gives, IsCounted, IsReached, Keeps, Spends};
 ghost use Rattle.vl_model.specs.declared.entry.Entry.{Entry};
-ghost use Rattle.vl_merge.specs.Standing.{IsMetBy};
+ghost use Rattle.vl_model.specs.declared.way.Way.{Way};
+ghost use Rattle.vl_model.specs.Merging.{IsAlong};
+ghost use Rattle.vl_merge.specs.Standing.{InWay, IsMetBy, is_beyond};
 ghost use Rattle.vl_merge.specs.Held.{visible_left, held_budget};
 ghost use Rattle.vl_merge.specs.Visible.{visible};
 ghost use Rattle.vl_merge.specs.declared.hides.Hides.TheVariants.{Gone};
@@ -38,7 +40,35 @@ impl<C: Cursor + Drop> Cursor for Visible<C> {
 
     ghost stands_to = { λ v f. IsMetBy f v.held ⊎ ⟦<Merge<C> as Cursor>⟧.stands_to v.merge f };
 
-    fn next(&mut self, reader: &mut C::Reader) -> Result<Option<Entry>, C::Fault> {
+    fn next(&mut self, reader: &mut C::Reader) -> Result<Option<Entry>, C::Fault>
+        // What each cursor promises.
+        ensures given { IfOk result (λ next. Gives
+            (visible_left self.old.hides self.old.number self.old.held (⟦<Merge<C> as Cursor>⟧.left self.old.merge))
+            (visible_left self.new.hides self.new.number self.new.held (⟦<Merge<C> as Cursor>⟧.left self.new.merge)) next) }
+        ensures kept { OnErr result (Keeps
+            (visible_left self.old.hides self.old.number self.old.held (⟦<Merge<C> as Cursor>⟧.left self.old.merge))
+            (visible_left self.new.hides self.new.number self.new.held (⟦<Merge<C> as Cursor>⟧.left self.new.merge))) }
+        ensures spends { MatchResult result (Spends (held_budget self.old.held (⟦<Merge<C> as Cursor>⟧.budget self.old.merge))
+            (held_budget self.new.held (⟦<Merge<C> as Cursor>⟧.budget self.new.merge)))
+            (λ _. held_budget self.new.held (⟦<Merge<C> as Cursor>⟧.budget self.new.merge)
+            ≤ held_budget self.old.held (⟦<Merge<C> as Cursor>⟧.budget self.old.merge)) }
+        ensures cause { MatchResult result (λ _. C.faults reader.new ≡ C.faults reader.old)
+            (λ fault. IsCounted (C.is_read_fault fault) (C.faults reader.old) (C.faults reader.new)) }
+        ensures may_fail { IfErr result (λ fault. ⟦<Merge<C> as Cursor>⟧.may_fail self.old.merge fault) }
+        ensures keeps { (fault : C.Fault) → ⟦<Merge<C> as Cursor>⟧.may_fail self.new.merge fault
+            → ⟦<Merge<C> as Cursor>⟧.may_fail self.old.merge fault }
+        ensures reaches { (is_met : Entry → Bool) → IfOk result (λ next. IsReached is_met next
+            → IsMetBy is_met self.old.held ⊎ ⟦<Merge<C> as Cursor>⟧.stands_to self.old.merge is_met) }
+        ensures back { (is_met : Entry → Bool)
+            → IsMetBy is_met self.new.held ⊎ ⟦<Merge<C> as Cursor>⟧.stands_to self.new.merge is_met
+            → IsMetBy is_met self.old.held ⊎ ⟦<Merge<C> as Cursor>⟧.stands_to self.old.merge is_met }
+
+        // Where what is left goes along a way, a winner is given only once all was read whole up to a key behind it.
+        ensures passes { (way : Way) → InWay way self.old.held (⟦<Merge<C> as Cursor>⟧.left self.old.merge)
+            → IfOk result (λ next. InWay way self.new.held (⟦<Merge<C> as Cursor>⟧.left self.new.merge)
+            × IfSome next (λ w. IsMetBy (is_beyond way w.key) self.old.held
+            ⊎ ⟦<Merge<C> as Cursor>⟧.stands_to self.old.merge (is_beyond way w.key))) }
+    {
         next_visible(
             &mut self.merge,
             &mut self.held,
@@ -59,6 +89,8 @@ impl<C: Cursor + Drop> Visible<C> {
             → ⟦<Merge<C> as Cursor>⟧.may_fail merge fault }
         ensures stands { (is_met : Entry → Bool) → ⟦<Visible<C> as Cursor>⟧.stands_to result is_met
             → ⟦<Merge<C> as Cursor>⟧.stands_to merge is_met }
+        ensures in_way { (way : Way) (es : List Entry) → ⟦<Merge<C> as Cursor>⟧.left merge ≡ Some es → IsAlong way es
+            → InWay way result.held (⟦<Merge<C> as Cursor>⟧.left result.merge) }
     {
         Self::with(merge, number, Hides::Gone)
     }
@@ -72,6 +104,8 @@ impl<C: Cursor + Drop> Visible<C> {
             → ⟦<Merge<C> as Cursor>⟧.may_fail merge fault }
         ensures stands { (is_met : Entry → Bool) → ⟦<Visible<C> as Cursor>⟧.stands_to result is_met
             → ⟦<Merge<C> as Cursor>⟧.stands_to merge is_met }
+        ensures in_way { (way : Way) (es : List Entry) → ⟦<Merge<C> as Cursor>⟧.left merge ≡ Some es → IsAlong way es
+            → InWay way result.held (⟦<Merge<C> as Cursor>⟧.left result.merge) }
     {
         merge.keys_stand_together();
         Visible {
@@ -106,6 +140,8 @@ fn next_visible<M: Cursor>(
         → IsMetBy is_met held.old ⊎ M.stands_to merge.old is_met) }
     ensures back { (is_met : Entry → Bool) → IsMetBy is_met held.new ⊎ M.stands_to merge.new is_met
         → IsMetBy is_met held.old ⊎ M.stands_to merge.old is_met }
+    ensures passes { (way : Way) → InWay way held.old (M.left merge.old) → IfOk result (λ next. InWay way held.new (M.left merge.new)
+        × IfSome next (λ w. IsMetBy (is_beyond way w.key) held.old ⊎ M.stands_to merge.old (is_beyond way w.key))) }
 {
     while let Some(entry) = merge.next(reader)? {
         let winner = pass(held, entry, number, hides);

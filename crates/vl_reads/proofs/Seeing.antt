@@ -5,7 +5,7 @@ use Rattle.std.specs.FinMap.{get}
 use Rattle.std.specs.Option.{option_map}
 use Rattle.std.proofs.Common.{ap, refl, sym, subst, ◌∙◌}
 use Rattle.vl_disk.specs.declared.name.Name.{Name}
-use Rattle.vl_reads.specs.Reading.{IfFails, IsFound, IsHandedOn, IsSound, IsTagged, ReadFailed, value_under, written_value}
+use Rattle.vl_reads.specs.Reading.{IfDamaged, IfFails, IsFound, IsHandedOn, IsSound, IsTagged, ReadFailed, value_under, written_value}
 use Rattle.vl_reads.specs.Refusing.{as_failed_read}
 use Rattle.vl_reads.specs.Sees.{Sees, SeesAlone, ShowsAt}
 use Rattle.vl_reads.specs.declared.fails.ReadFail.{ReadFail}
@@ -241,3 +241,12 @@ fails_so {U = U} P faults.NoMemory is (Err e) failed = subst (λ (f : ReadFail).
 fails_so {U = U} P (faults.Disk name) is (Err e) failed = subst (λ (f : ReadFail). IfFails {T = U} P (Err f)) (sym failed) is
 fails_so {U = U} P (faults.Damaged name place) is (Err e) failed =
     subst (λ (f : ReadFail). IfFails {T = U} P (Err f)) (sym failed) is
+
+-- so is where damage was met
+pub damage_so : {T U : Type 0} (good : T → Type 0) (bad : Name → ℕ → Type 0) (fault : VersionFault) → IsAnswer good bad (Err fault)
+    → (result : Result U ReadFail) → IsErrAnd result (λ why. why ≡ as_failed_read fault) → IfDamaged bad result
+damage_so good bad fault is (Ok answer) failed = absurd failed
+damage_so {U = U} good bad faults.NoMemory is (Err e) failed = subst (λ (f : ReadFail). IfDamaged {T = U} bad (Err f)) (sym failed) tt
+damage_so {U = U} good bad (faults.Disk name) is (Err e) failed = subst (λ (f : ReadFail). IfDamaged {T = U} bad (Err f)) (sym failed) tt
+damage_so {U = U} good bad (faults.Damaged name place) is (Err e) failed =
+    subst (λ (f : ReadFail). IfDamaged {T = U} bad (Err f)) (sym failed) is

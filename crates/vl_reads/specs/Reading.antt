@@ -24,6 +24,7 @@ use Rattle.vl_version.specs.Naming.{IsLogFault, IsScanFault}
 use Rattle.vl_version.specs.Over.{LooksOver}
 use Rattle.vl_version.specs.Sources.{stored_in, tables_in}
 use Rattle.vl_version.specs.Whole.{LevelsStop}
+use Rattle.vl_disk.specs.declared.name.Name.{Name}
 use Rattle.vl_disk.specs.declared.read_fault.ReadFault.{ReadFault as VersionFault}
 use Rattle.vl_disk.specs.declared.read_fault.ReadFault.TheVariants as failed
 use Rattle.vl_version.specs.declared.found.Found.{Found}
@@ -93,6 +94,15 @@ NamesScanned bytes version low high result =
 abbrev pub StopsScanned : {H T : Type 0} → (H → Option (List ℕ)) → Version H → (low high : List ℕ) → Way → Result T ReadFail → Type 0
 StopsScanned bytes version low high way result = IfFails
     (λ fault. LevelsStop bytes (span_of low high) way version.behind.levels fault ⊎ IsLogFault version.behind.logs.items fault) result
+
+-- where damage is answered, this is so of its place
+abbrev pub IfDamaged : {T : Type 0} → (Name → ℕ → Type 0) → Result T ReadFail → Type 0
+IfDamaged P (Ok answer) = Unit {0}
+IfDamaged P (Err why.EmptyKey) = Unit {0}
+IfDamaged P (Err why.KeyTooLong) = Unit {0}
+IfDamaged P (Err why.NoMemory) = Unit {0}
+IfDamaged P (Err (why.Disk name)) = Unit {0}
+IfDamaged P (Err (why.Damaged name place)) = P name place
 
 -- damage was met
 abbrev pub MetDamage : {T : Type 0} → Result T ReadFail → Type 0

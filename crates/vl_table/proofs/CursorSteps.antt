@@ -14,10 +14,10 @@ use Rattle.vl_model.specs.declared.way.Way.{Way}
 use Rattle.vl_model.specs.EntryOrder.{within}
 use Rattle.vl_model.specs.laws.Places.{slice_get-within}
 use Rattle.vl_table.specs.declared.body.index.BlockPlace.{BlockPlace}
-use Rattle.vl_table.specs.BlockEntries.{block_entries}
 use Rattle.vl_table.specs.CursorParts.{Block, StandsWith, MayFailOn, StopsBefore, block_count, blocks_at, blocks_over}
 use Rattle.vl_table.specs.CursorParts.{entries_told, index_in, index_of, rise_over}
 use Rattle.vl_table.specs.SpanBlocks.{blocks_in, rises_over}
+use Rattle.vl_table.specs.Standing.{standing_entries}
 use Rattle.vl_table.specs.Stretches.{IsNextOn, on_way, stretch_of}
 use Rattle.vl_table.specs.Tables.{number_of, shape_of}
 use Rattle.vl_table.specs.Answers.{Answers}
@@ -30,7 +30,7 @@ use Rattle.vl_disk.specs.declared.name.Name.TheVariants.{Table as table_name}
 use Rattle.vl_table.specs.declared.body.shape.TableShape.{TableShape}
 use Rattle.vl_table.specs.declared.stretch.Stretch.{Stretch}
 use Rattle.vl_table.specs.declared.table.Table.{Table}
-use Rattle.vl_table.proofs.BlockSays.{block_entries-says}
+use Rattle.vl_table.proofs.StandingBlocks.{standing-says}
 use Rattle.vl_table.proofs.StretchSteps.{end_on, less_on, step_on}
 
 -- ---- one entry
@@ -194,6 +194,12 @@ module _ {H : Type 0} where
 abbrev pub left_of : Bool → List Entry → Option (List Entry) → Option (List Entry)
 left_of rises here told = if rises then option_map (λ later. here ++ later) told else None
 
+-- nothing of a block that was read
+pub left_begun : (b : Bool) (o : Option (List Entry)) → left_of b [] o ≡ (if b then o else None)
+left_begun true None = refl
+left_begun true (Some later) = refl
+left_begun false o = refl
+
 pub keeps_all : (b : Bool) (o p : Option (List Entry)) (xs ys : List Entry) → (b ≡ true → o ≡ p) → xs ≡ ys
     → Keeps (left_of b xs o) (left_of b ys p)
 keeps_all true o p xs ys same here = λ left is. sym (λ i. option_map (λ later. here i ++ later) (same refl i)) ∙ is
@@ -238,7 +244,7 @@ module _ {H : Type 0} (bytes_of : H → Option (List ℕ)) (span : Span) (way : 
       by (bytes_of block.0.held) refl (entries_told bytes_of span way new) refl
     where
       part : List ℕ → List Entry
-      part bytes = within span (on_way way (block_entries (shape_of block.0).format bytes block.1))
+      part bytes = within span (on_way way (standing_entries (shape_of block.0).format (number_of block.0) bytes block.1))
 
       whole : Option (List ℕ) → Option (List Entry) → Option (List Entry)
       whole told later = option_and_then (λ bytes. option_map (λ l. part bytes ++ l) later) told
@@ -260,5 +266,5 @@ module _ {H : Type 0} (bytes_of : H → Option (List ℕ)) (span : Span) (way : 
           let was = first (Some bytes) is ∙ ap (λ o. option_map (λ (l : List Entry). l) (whole (Some bytes) o)) more in
           let says : part bytes ≡ ys =
           ap (λ (l : List Entry). within span (on_way way l))
-          (block_entries-says (shape_of block.0).format (number_of block.0) bytes block.1 es (stood bytes is)) ∙ sym taken in
+          (standing-says (shape_of block.0).format (number_of block.0) bytes block.1 es (stood bytes is)) ∙ sym taken in
           ap (option_map (λ l. ys ++ l)) more ∙ ap (λ (l : List Entry). Some (l ++ later)) (sym says) ∙ sym was ∙ told

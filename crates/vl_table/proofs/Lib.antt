@@ -22,6 +22,7 @@ pub mod ScanSteps
 mod SeekSteps
 mod SpanParts
 mod Stages
+mod StandingBlocks
 pub mod StartSteps
 mod StandingSteps
 mod StoppingSteps

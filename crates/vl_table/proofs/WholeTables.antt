@@ -17,78 +17,78 @@ use Rattle.vl_table.specs.body.Bytes.{IsTable, block_places, table_bytes}
 use Rattle.vl_model.specs.Cutting.{block_frame_length, blocks, joined, last_key}
 use Rattle.vl_table.specs.declared.body.index.BlockPlace.{BlockPlace}
 use Rattle.vl_model.specs.laws.CuttingLaws.{blocks-some, blocks-whole}
-use Rattle.vl_table.specs.BlockEntries.{block_entries}
 use Rattle.vl_table.specs.CursorParts.{Block, blocks_at, blocks_over, entries_told, index_of, rise_over}
 use Rattle.vl_table.specs.OfTables.{AreOf}
 use Rattle.vl_table.specs.SpanBlocks.{blocks_in, blocks_of, no_blocks, rises_over}
+use Rattle.vl_table.specs.Standing.{standing_entries}
 use Rattle.vl_table.specs.Stretches.{on_way, stretch_of}
 use Rattle.vl_table.specs.Tables.{IsOf, number_of, shape_of}
 use Rattle.vl_table.specs.declared.table.Table.{Table}
 use Rattle.vl_table.specs.declared.stretch.Stretch.{Stretch}
 use Rattle.vl_table.specs.laws.RangeLaws.{first_is, in_order}
 use Rattle.vl_table.specs.laws.TrueBlocks.{block_stands}
-use Rattle.vl_table.proofs.BlockSays.{block_entries-says}
 use Rattle.vl_table.proofs.CursorSteps.{none_at}
+use Rattle.vl_table.proofs.StandingBlocks.{standing-says}
 use Rattle.vl_table.proofs.WholeSpans.{above_out, flat, flat_way, index_rises, span_blocks, within_way}
 
 -- ---- what the bytes say of blocks
 
--- the bytes say that these blocks have these entries
-abbrev AreSaid : ℕ → List ℕ → List BlockPlace → List (List Entry) → Type 0
-AreSaid format bytes [] [] = Unit {0}
-AreSaid format bytes [] (b ∷ bs) = ⊥
-AreSaid format bytes (p ∷ ps) [] = ⊥
-AreSaid format bytes (p ∷ ps) (b ∷ bs) = (block_entries format bytes p ≡ b) × AreSaid format bytes ps bs
+-- these blocks have these entries, as far as they stand
+abbrev AreSaid : ℕ → ℕ → List ℕ → List BlockPlace → List (List Entry) → Type 0
+AreSaid format number bytes [] [] = Unit {0}
+AreSaid format number bytes [] (b ∷ bs) = ⊥
+AreSaid format number bytes (p ∷ ps) [] = ⊥
+AreSaid format number bytes (p ∷ ps) (b ∷ bs) = (standing_entries format number bytes p ≡ b) × AreSaid format number bytes ps bs
 
-module _ (format : ℕ) (bytes : List ℕ) where
-  said_take : (n : ℕ) (ps : List BlockPlace) (bs : List (List Entry)) → AreSaid format bytes ps bs
-      → AreSaid format bytes (take n ps) (take n bs)
+module _ (format number : ℕ) (bytes : List ℕ) where
+  said_take : (n : ℕ) (ps : List BlockPlace) (bs : List (List Entry)) → AreSaid format number bytes ps bs
+      → AreSaid format number bytes (take n ps) (take n bs)
   said_take zero ps bs said = tt
   said_take (suc n) [] [] said = tt
   said_take (suc n) [] (b ∷ bs) said = said
   said_take (suc n) (p ∷ ps) [] said = said
   said_take (suc n) (p ∷ ps) (b ∷ bs) said = (said.0, said_take n ps bs said.1)
 
-  said_drop : (n : ℕ) (ps : List BlockPlace) (bs : List (List Entry)) → AreSaid format bytes ps bs
-      → AreSaid format bytes (drop n ps) (drop n bs)
+  said_drop : (n : ℕ) (ps : List BlockPlace) (bs : List (List Entry)) → AreSaid format number bytes ps bs
+      → AreSaid format number bytes (drop n ps) (drop n bs)
   said_drop zero ps bs said = said
   said_drop (suc n) [] [] said = tt
   said_drop (suc n) [] (b ∷ bs) said = absurd said
   said_drop (suc n) (p ∷ ps) [] said = absurd said
   said_drop (suc n) (p ∷ ps) (b ∷ bs) said = said_drop n ps bs said.1
 
-  said_append : (ps qs : List BlockPlace) (bs cs : List (List Entry)) → AreSaid format bytes ps bs
-      → AreSaid format bytes qs cs → AreSaid format bytes (ps ++ qs) (bs ++ cs)
+  said_append : (ps qs : List BlockPlace) (bs cs : List (List Entry)) → AreSaid format number bytes ps bs
+      → AreSaid format number bytes qs cs → AreSaid format number bytes (ps ++ qs) (bs ++ cs)
   said_append [] qs [] cs first second = second
   said_append [] qs (b ∷ bs) cs first second = absurd first
   said_append (p ∷ ps) qs [] cs first second = absurd first
   said_append (p ∷ ps) qs (b ∷ bs) cs first second = (first.0, said_append ps qs bs cs first.1 second)
 
-  said_reverse : (ps : List BlockPlace) (bs : List (List Entry)) → AreSaid format bytes ps bs
-      → AreSaid format bytes (reverse ps) (reverse bs)
+  said_reverse : (ps : List BlockPlace) (bs : List (List Entry)) → AreSaid format number bytes ps bs
+      → AreSaid format number bytes (reverse ps) (reverse bs)
   said_reverse [] [] said = tt
   said_reverse [] (b ∷ bs) said = absurd said
   said_reverse (p ∷ ps) [] said = absurd said
   said_reverse (p ∷ ps) (b ∷ bs) said =
-      subst (λ (l : List BlockPlace). AreSaid format bytes l (reverse (b ∷ bs))) (sym (reverse-append (p ∷ []) ps))
-      (subst (λ (l : List (List Entry)). AreSaid format bytes (reverse ps ++ p ∷ []) l) (sym (reverse-append (b ∷ []) bs))
+      subst (λ (l : List BlockPlace). AreSaid format number bytes l (reverse (b ∷ bs))) (sym (reverse-append (p ∷ []) ps))
+      (subst (λ (l : List (List Entry)). AreSaid format number bytes (reverse ps ++ p ∷ []) l) (sym (reverse-append (b ∷ []) bs))
       (said_append (reverse ps) (p ∷ []) (reverse bs) (b ∷ []) (said_reverse ps bs said.1) (said.0, tt)))
 
-  said_way : (way : Way) (ps : List BlockPlace) (bs : List (List Entry)) → AreSaid format bytes ps bs
-      → AreSaid format bytes (on_way way ps) (on_way way bs)
+  said_way : (way : Way) (ps : List BlockPlace) (bs : List (List Entry)) → AreSaid format number bytes ps bs
+      → AreSaid format number bytes (on_way way ps) (on_way way bs)
   said_way Up ps bs said = said
   said_way Down ps bs said = said_reverse ps bs said
 
 -- those of a true table have its entries
 said_all : (format number : ℕ) (es : List Entry) (at : ℕ) (front back : List (List Entry)) → IsTable format number es
     → blocks format es ≡ front ++ back
-    → at ≡ 16 + sum_by (block_frame_length format) front → AreSaid format (table_bytes format number es) (block_places format at back) back
+    → at ≡ 16 + sum_by (block_frame_length format) front → AreSaid format number (table_bytes format number es) (block_places format at back) back
 said_all format number es at front [] is split here = tt
 said_all format number es at front (b ∷ back) is split here =
     let p : BlockPlace = record { place = at; length = block_frame_length format b; last = last_key b } in
     let stands = block_stands format number es (length front) p is
     (record { front = front; block = b; back = back; split = split; counted = refl; place = here; length = refl; last = refl }) in (
-      block_entries-says format number (table_bytes format number es) p b stands,
+      standing-says format number (table_bytes format number es) p b stands,
       said_all format number es (at + block_frame_length format b) (front ++ b ∷ []) back is
           (split ∙ sym (append_assoc front (b ∷ []) back)) (omega (arith, here, behind front b)),
     )
@@ -105,7 +105,7 @@ module _ {H : Type 0} (bytes_of : H → Option (List ℕ)) (span : Span) (way : 
   -- in front of what is told of others
   told_front : (t : Table H) (bytes : List ℕ) (ps : List BlockPlace) (bs : List (List Entry)) (others : List (Block H))
       → bytes_of t.held ≡ Some bytes
-      → AreSaid (shape_of t).format bytes ps bs
+      → AreSaid (shape_of t).format (number_of t) bytes ps bs
       → entries_told bytes_of span way (map (λ p. (t, p)) ps ++ others) ≡ option_map
       (λ later. flat span way bs ++ later) (entries_told bytes_of span way others)
   told_front t bytes [] [] others told said = same (entries_told bytes_of span way others)
@@ -117,7 +117,7 @@ module _ {H : Type 0} (bytes_of : H → Option (List ℕ)) (span : Span) (way : 
   told_front t bytes (p ∷ ps) [] others told said = absurd said
   told_front t bytes (p ∷ ps) (b ∷ bs) others told said =
       ap (option_and_then (λ x. option_map
-      (λ later. within span (on_way way (block_entries (shape_of t).format x p)) ++ later)
+      (λ later. within span (on_way way (standing_entries (shape_of t).format (number_of t) x p)) ++ later)
       (entries_told bytes_of span way (map (λ q. (t, q)) ps ++ others)))) told
       ∙ (λ i. option_map (λ later. within span (on_way way (said.0 i)) ++ later) (told_front t bytes ps bs others told said.1 i))
       ∙ twice (entries_told bytes_of span way others)
@@ -140,9 +140,9 @@ module _ {H : Type 0} (bytes_of : H → Option (List ℕ)) (span : Span) (way : 
       let ps = block_places format 16 bs in
       let range = blocks_of span ps in
       let said = said_all format (number_of t) es 16 [] bs is.shape.table refl (omega arith) in
-      let part = said_way format bytes way (stretch_of range ps) (stretch_of range bs)
-      (said_take format bytes (range.end - range.first) (drop range.first ps) (drop range.first bs)
-      (said_drop format bytes range.first ps bs said)) in
+      let part = said_way format (number_of t) bytes way (stretch_of range ps) (stretch_of range bs)
+      (said_take format (number_of t) bytes (range.end - range.first) (drop range.first ps) (drop range.first bs)
+      (said_drop format (number_of t) bytes range.first ps bs said)) in
       let whole = blocks-whole format es in
       let rises = rising (joined bs) (subst IsInOrder (sym whole) is.shape.table.tabled.ordered) in
       let same : flat span way (on_way way (stretch_of range bs)) ≡ within span (on_way way es) =

@@ -1,5 +1,6 @@
 -- What holds of a result that is handed on.
 use Rattle.std.specs.Prelude.{◌≡◌, Result, Ok, Err, IsErrAnd, IsErrOf, OnOk}
+use Rattle.std.proofs.Common.{ap, sym, ◌∙◌}
 use Rattle.vl_table.specs.declared.writer.add_fail.AddFail.{AddFail}
 use Rattle.vl_table.specs.declared.writer.add_fail.AddFail.TheVariants as add
 use Rattle.vl_table.specs.declared.writer.write_fail.WriteFail.{WriteFail}
@@ -34,6 +35,15 @@ pub add_too_long : {T : Type 0} (e : WriteFail) (result : Result T AddFail) → 
 add_too_long e (Ok x) and is = absurd and
 add_too_long why.TooLong (Err f) and is = cc
 add_too_long why.NoMemory (Err f) and is = absurd (let no : f ≡ add.NoMemory = and in cc)
+
+pub too_long_added : {T : Type 0} (e : WriteFail) (result : Result T AddFail) → IsErrAnd result (λ f. f ≡ write_failed e)
+    → e ≡ why.TooLong → IsErrOf result add.TooLong
+too_long_added e (Ok x) and is = absurd and
+too_long_added e (Err f) and is = ap Err (and ∙ ap write_failed is)
+
+-- two errors of one result are one
+pub one_error : {T : Type 0} (e f : WriteFail) (r : Result T WriteFail) → r ≡ Err e → r ≡ Err f → e ≡ f
+one_error e f r first second = let same = sym first ∙ second in cc
 
 pub never_unlawful : {T : Type 0} (e : WriteFail) (result : Result T AddFail) → IsErrAnd result (λ f. f ≡ write_failed e)
     → IsErrOf result add.NotLawful → ⊥

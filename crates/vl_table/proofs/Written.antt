@@ -144,6 +144,38 @@ full_is closed open_block e place n end at long is =
       length-block_body table_format (open_block ++ e ∷ []),
     )
 
+-- and where they end with one more
+pub ends_open : (closed : List (List Entry)) (open_block : List Entry) (e : Entry) (place n : ℕ)
+    → place ≡ 16 + sum_by (block_frame_length table_format) closed → n ≡ length (block_body table_format open_block)
+    → nat_le (length (block_body table_format open_block) + entry_length table_format e) max_block_bytes ≡ true
+    → end_of (closed ++ blocks_from table_format open_block (length (block_body table_format open_block)) (e ∷ []))
+    ≡ place + (n + 13) + entry_length table_format e
+ends_open closed open_block e place n at long room =
+    ap (λ bs. end_of (closed ++ bs))
+    (chosen (nat_le (length (block_body table_format open_block) + entry_length table_format e) max_block_bytes)
+    ((open_block ++ e ∷ []) ∷ []) (open_block ∷ (e ∷ []) ∷ []) room)
+    ∙ full_is closed open_block e place n (place + (n + 13)) at long refl
+
+pub ends_behind : (closed : List (List Entry)) (open_block : List Entry) (e : Entry) (place n : ℕ)
+    → place ≡ 16 + sum_by (block_frame_length table_format) closed → n ≡ length (block_body table_format open_block)
+    → nat_le (length (block_body table_format open_block) + entry_length table_format e) max_block_bytes ≡ false
+    → end_of (closed ++ blocks_from table_format open_block (length (block_body table_format open_block)) (e ∷ []))
+    ≡ place + (n + 13) + 17 + entry_length table_format e
+ends_behind closed open_block e place n at long full =
+    ap (λ bs. end_of (closed ++ bs))
+    (not_chosen (nat_le (length (block_body table_format open_block) + entry_length table_format e) max_block_bytes)
+    ((open_block ++ e ∷ []) ∷ []) (open_block ∷ (e ∷ []) ∷ []) full
+    ) ∙ omega (
+      arith,
+      at,
+      long,
+      length-block_body table_format open_block,
+      sum-push closed open_block,
+      sum-push (closed ++ open_block ∷ []) (e ∷ []),
+      sum_by-cons (entry_length table_format) e [],
+      ap (sum_by (block_frame_length table_format)) (append_assoc closed (open_block ∷ []) ((e ∷ []) ∷ [])),
+    )
+
 pub past_end : (end m total : ℕ) → total ≡ end + m → 4294967295 < end → true ≡ nat_le (2 ^ 32) total
 past_end end m total is past = grind (arith, nat_tests, is, past)
 
@@ -172,11 +204,6 @@ full_end w number es given e is full =
       ap (λ bs. sum_by (block_frame_length table_format) bs) cut,
       sum-push (is.closed ++ is.open_block ∷ []) (e ∷ []),
     )
-
--- and where the open block has room for it
-pub room_end : (w : TableWriter) (number : ℕ) (es : List Entry) (given : List ℕ) (e : Entry) → (room : HasRoom w number es given e)
-    → end_of (room.closed ++ (room.open_block ++ e ∷ []) ∷ []) ≡ blocks_end (es ++ e ∷ [])
-room_end w number es given e room = ap end_of (sym (room.cut []))
 
 -- the entry goes into the open block
 pub stays_open : (w : TableWriter) (number : ℕ) (es : List Entry) (given : List ℕ) (e : Entry) → (is : IsWriting w number es given)

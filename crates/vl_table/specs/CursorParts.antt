@@ -1,5 +1,5 @@
 -- The blocks that a cursor over tables reads, one after the other.
-use Rattle.std.specs.Prelude.{◌≡◌, ℕ, Bool, true, false, Option, Some, None, List, [], ◌∷◌, ◌++◌, length, map}
+use Rattle.std.specs.Prelude.{◌≡◌, ℕ, Bool, true, false, if◌then◌else◌, Option, Some, None, List, [], ◌∷◌, ◌++◌, length, map}
 use Rattle.std.specs.List.{AllByRecursion, list_all, slice_get, sum_by}
 use Rattle.std.specs.Option.{ForSome, option_and_then, option_map}
 use Rattle.vl_model.specs.declared.entry.Entry.{Entry}
@@ -9,10 +9,10 @@ use Rattle.vl_model.specs.EntryOrder.{within}
 use Rattle.vl_table.specs.declared.body.index.BlockPlace.{BlockPlace}
 use Rattle.vl_disk.specs.declared.name.Name.{Name}
 use Rattle.vl_disk.specs.declared.name.Name.TheVariants.{Table as table_name}
-use Rattle.vl_table.specs.BlockEntries.{block_entries}
 use Rattle.vl_table.specs.Kept.{NoBlock, StandsBlock}
 use Rattle.vl_table.specs.Seeks.{IsBadBlock}
 use Rattle.vl_table.specs.SpanBlocks.{blocks_in, rises_over}
+use Rattle.vl_table.specs.Standing.{standing_entries}
 use Rattle.vl_table.specs.Stretches.{on_way, stretch_of}
 use Rattle.vl_table.specs.Tables.{number_of, shape_of}
 use Rattle.vl_disk.specs.declared.read_fault.ReadFault.{ReadFault}
@@ -52,12 +52,18 @@ module _ {H : Type 0} where
   block_count ts = sum_by (λ t. length (index_of t)) ts
 
   module _ (bytes_of : H → Option (List ℕ)) where
-    -- The entries of blocks whose keys are in the interval, as a way goes through them, where the tables' bytes are told.
+    -- The entries of the blocks that stand whose keys are in the interval, as a way goes through them, where the tables' bytes are
+    -- told. A block that doesn't stand has none.
     abbrev pub entries_told : Span → Way → List (Block H) → Option (List Entry)
     entries_told span way [] = Some []
     entries_told span way (b ∷ bs) =
-        option_and_then (λ bytes. option_map (λ later. within span (on_way way (block_entries (shape_of b.0).format bytes b.1)) ++ later)
+        option_and_then (λ bytes. option_map (λ later. within span (on_way way
+        (standing_entries (shape_of b.0).format (number_of b.0) bytes b.1)) ++ later)
         (entries_told span way bs)) (bytes_of b.0.held)
+
+    -- so it is of the blocks of these tables that may have keys of the interval, where the tables' indexes rise
+    abbrev pub entries_over : Span → Way → List (Table H) → Option (List Entry)
+    entries_over span way ts = if rise_over span ts then entries_told span way (blocks_over span way (on_way way ts)) else None
 
     -- the block stands, where its table's bytes are told, and has these entries
     abbrev pub StandsWith : Block H → List Entry → Type 0

@@ -17,6 +17,7 @@ pub mod ReadTo
 pub mod Scans
 pub mod Seeks
 pub mod SpanBlocks
+pub mod Standing
 pub mod Stretches
 pub mod Tables
 pub mod Tested

@@ -103,7 +103,7 @@ impl<H: HeldFile, R: Reader<Held = H> + Drop> TableCursor<H, R> {
     ghost use Rattle.vl_model.specs.Cutting.{joined};
     ghost use Rattle.vl_table.specs.CursorLeft.{Begins, EndsAt, GoesOn, HasNotRead, ReadsNext, StaysIn};
     ghost use Rattle.vl_table.specs.CursorLeft.{blocks_left, cursor_budget, in_block, unread};
-    ghost use Rattle.vl_table.specs.CursorParts.{MayFailOn, StopsBefore, is_disk_fault, rise_over};
+    ghost use Rattle.vl_table.specs.CursorParts.{MayFailOn, StopsBefore, entries_over, is_disk_fault, rise_over};
     ghost use Rattle.vl_table.specs.Stretches.{IsNextOn};
     ghost use Rattle.vl_table.specs.OfTables.{AreOf};
     ghost use Rattle.vl_table.specs.CursorStops.{MayStopOn};
@@ -122,6 +122,9 @@ impl<H: HeldFile, R: Reader<Held = H> + Drop> TableCursor<H, R> {
             → IfOk result (λ c. ⟦<TableCursor<H, R> as Cursor>⟧.left c ≡ Some (along way (within span (joined ess)))) }
         ensures may_fail { IfOk result (λ c. (fault : ReadFault)
             → ⟦<TableCursor<H, R> as Cursor>⟧.may_fail c fault → MayStopOn H.bytes span way tables.items fault) }
+
+        // Also where tables aren't true it has the entries of the blocks that stand.
+        ensures tells { IfOk result (λ c. ⟦<TableCursor<H, R> as Cursor>⟧.left c ≡ entries_over H.bytes span way tables.items) }
         ensures begins { IfOk result (Begins tables.items span way) }
 
         // Up to an entry that it gives, or its end, each block stands.

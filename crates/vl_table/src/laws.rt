@@ -7,7 +7,9 @@ ghost use Rattle.vl_table.specs.body.Index.{SpellsIndex};
 ghost use Rattle.vl_table.specs.declared.body.index.BlockPlace.{BlockPlace};
 ghost use Rattle.vl_model.specs.Cutting.{blocks, points_of, table_length, with_point};
 ghost use Rattle.vl_table.specs.body.Bytes.{AreTabled, block_places, foot, table_bytes, IsTable};
+ghost use Rattle.vl_table.specs.Kept.{StandsBlock};
 ghost use Rattle.vl_table.specs.Seeks.{IsBadBlock};
+ghost use Rattle.vl_table.specs.Standing.{standing_entries};
 ghost use Rattle.vl_table.specs.declared.table.Table.{Table};
 ghost use Rattle.vl_model.specs.Formats.{table_format};
 ghost use Rattle.vl_table.specs.Opening.{IsDamaged, IsRead, Said, said_of};
@@ -48,6 +50,15 @@ pub fn tables_are_read_in_one_way()
 pub fn true_tables_are_read()
     ensures { (format number : ℕ) (es : List Entry) → 1 ≤ format → format ≤ table_format → IsTable format number es
         → IsRead number (table_bytes format number es) (said_of format es) }
+{}
+
+/// Of a block that stands what a cursor is told are its entries, and where none stands there are none.
+pub fn blocks_have_what_stands()
+    ensures stands { (format number : ℕ) (bytes : List ℕ) (p : BlockPlace) (es : List Entry)
+        → StandsBlock format number bytes p.place p.length es → standing_entries format number bytes p ≡ es }
+    ensures none { (format number : ℕ) (bytes : List ℕ) (p : BlockPlace)
+        → ((es : List Entry) → StandsBlock format number bytes p.place p.length es → ⊥)
+        → standing_entries format number bytes p ≡ [] }
 {}
 
 /// In a true table each block stands where the index says.

@@ -36,8 +36,9 @@ pub use body::{
 };
 pub use cursor::TableCursor;
 pub use laws::{
-    a_worked_table, bodies_are_read_in_one_way, tables_are_read_in_one_way,
-    tables_have_their_length, true_tables_are_read, true_tables_have_no_bad_block,
+    a_worked_table, blocks_have_what_stands, bodies_are_read_in_one_way,
+    tables_are_read_in_one_way, tables_have_their_length, true_tables_are_read,
+    true_tables_have_no_bad_block,
 };
 pub use table::Table;
 pub use writer::{AddFail, TableWriter, Tail, WriteFail, tables_have_room};

@@ -165,6 +165,19 @@ module _ (held logs : Logs) (es : List Entry) (number : ℕ) (own : Writes) (wan
   scan_answers bad never (Err (Damaged name place)) (inl wrong) = absurd (never name place wrong)
   scan_answers bad never (Err (Damaged name place)) (inr one) = one_finds seen all_find name place one
 
+  -- the same where sources may be damaged too
+  pub scan_answers_or : (bad worse : Name → ℕ → Type 0) → ((name : Name) (place : ℕ) → bad name place → worse name place)
+      → (result : Result (Vec Row Global) ReadFault)
+      → IsAnswer (λ rows. AreRowsOf held (take wanted.limit seen) rows.items)
+      (λ name place. bad name place ⊎ OneAstray held seen name place) result
+      → IsAnswer (λ rows. AreScanned logs es number wanted own rows.items)
+      (λ name place. worse name place ⊎ SomeAstray logs es number name place) result
+  scan_answers_or bad worse sends (Ok rows) answer = scanned_so rows.items answer
+  scan_answers_or bad worse sends (Err NoMemory) answer = tt
+  scan_answers_or bad worse sends (Err (Disk name)) answer = tt
+  scan_answers_or bad worse sends (Err (Damaged name place)) (inl wrong) = inl (sends name place wrong)
+  scan_answers_or bad worse sends (Err (Damaged name place)) (inr one) = inr (one_finds seen all_find name place one)
+
 -- ---- of a version
 
 module _ {H : Type 0} (bytes_of : H → Option (List ℕ)) (version : Version H) (es : List Entry) (logs : Logs)

@@ -19,7 +19,9 @@ mod PutLaws
 mod RangesMet
 mod RowLaws
 mod ScanLaws
+mod SeenCursor
 mod SharedLaws
+mod StandingLaws
 mod TableSources
 mod TakeLaws
 mod Telling

@@ -1,7 +1,7 @@
 -- Rows are taken one after the other.
 use Rattle.std.proofs.Common.{◌≡◌, ℕ, zero, suc, ◌<◌, ◌≤◌, List, [], ◌∷◌, ◌++◌, length, take, drop, refl, ap, sym, ◌∙◌, subst}
 use Rattle.std.proofs.Common.{arith, append_assoc, length-append, append-nil, Option, Some, None, inl, inr}
-use Rattle.std.specs.Prelude.{Err}
+use Rattle.std.specs.Prelude.{false, Err, Result}
 use Rattle.std.proofs.lemmas.List.{drop_all, take_all}
 use Rattle.std.specs.List.{AllByRecursion}
 use Rattle.vl_disk.specs.declared.name.Name.{Name}
@@ -10,6 +10,8 @@ use Rattle.vl_model.specs.Keys.{Row}
 use Rattle.vl_model.specs.Winners.{Logs}
 use Rattle.vl_model.specs.declared.entry.Entry.{Entry}
 use Rattle.vl_version.specs.Answers.{IsAnswer, IsAstray}
+use Rattle.vl_version.specs.Faults.{Failed}
+use Rattle.vl_version.specs.Gives.{is_disk_fault}
 use Rattle.vl_disk.specs.declared.read_fault.ReadFault.{ReadFault}
 use Rattle.vl_disk.specs.declared.read_fault.ReadFault.TheVariants.{NoMemory, Disk, Damaged}
 use Rattle.vl_version.specs.Near.{AreNear, IsNear}
@@ -142,3 +144,23 @@ pub err_answer : {T U : Type 0} (good : T → Type 0) (more : U → Type 0) (bad
 err_answer good more bad worse NoMemory weaker answer = tt
 err_answer good more bad worse (Disk name) weaker answer = tt
 err_answer good more bad worse (Damaged name place) weaker answer = weaker name place answer
+
+-- what doesn't say that reading failed hasn't failed
+pub no_read_fault : {T : Type 0} (e : ReadFault) (result : Result T ReadFault) → result ≡ Err e → is_disk_fault e ≡ false
+    → Failed result → ⊥
+no_read_fault {T} e result is quiet failed = by e quiet (subst (λ (r : Result T ReadFault). Failed r) is failed)
+  where
+    by : (f : ReadFault) → is_disk_fault f ≡ false → Failed {T = T} (Err f) → ⊥
+    by NoMemory quiet failed = failed
+    by (Disk name) quiet failed = cc
+    by (Damaged name place) quiet failed = failed
+
+-- a fault of what is read is answered as it is
+pub fault_answer : {T : Type 0} (good : T → Type 0) (bad : Name → ℕ → Type 0) (e : ReadFault) (result : Result T ReadFault)
+    → result ≡ Err e → ((name : Name) (place : ℕ) → e ≡ Damaged name place → bad name place) → IsAnswer good bad result
+fault_answer {T} good bad e result is sends = subst (λ (r : Result T ReadFault). IsAnswer good bad r) (sym is) (by e refl)
+  where
+    by : (f : ReadFault) → e ≡ f → IsAnswer {T = T} good bad (Err f)
+    by NoMemory same = tt
+    by (Disk name) same = tt
+    by (Damaged name place) same = sends name place same

@@ -14,7 +14,7 @@ use Rattle.std.specs.declared.cmp.Ordering.TheVariants.{Less, Equal, Greater}
 use Rattle.vl_disk.specs.declared.name.Name.{Name}
 use Rattle.vl_disk.specs.declared.read_fault.ReadFault.{ReadFault}
 use Rattle.vl_disk.specs.declared.read_fault.ReadFault.TheVariants.{NoMemory, Disk, Damaged}
-use Rattle.vl_merge.specs.Standing.{IsUpward}
+use Rattle.vl_merge.specs.Standing.{IsUpward, is_beyond}
 use Rattle.vl_model.specs.Keys.{Row, Stored, key_cmp}
 use Rattle.vl_model.specs.laws.WinnerLaws.{key_tied}
 use Rattle.vl_model.specs.declared.entry.Entry.{Entry}
@@ -78,6 +78,23 @@ past_upward Down key e f met le =
     ap not (not_above key e.key f.key (not_true (is_gt (key_cmp e.key key)) met)
     (first_not (key_cmp f.key e.key) (nat_cmp e.version f.version) le))
 
+-- and so it is of keys that come behind another
+pub beyond_upward : (way : Way) (key : List ℕ) → IsUpward way (is_beyond way key)
+beyond_upward Up key e f met le = by (is_gt (key_cmp f.key key)) refl
+  where
+    by : (b : Bool) → is_gt (key_cmp f.key key) ≡ b → is_gt (key_cmp f.key key) ≡ true
+    by true is = is
+    by false is =
+        let no = sym met ∙ upto keys e.key f.key key (first_not (key_cmp e.key f.key) (nat_cmp f.version e.version) le) is in absurd cc
+beyond_upward Down key e f met le = by (is_lt (key_cmp f.key key)) refl
+  where
+    by : (b : Bool) → is_lt (key_cmp f.key key) ≡ b → is_lt (key_cmp f.key key) ≡ true
+    by true is = is
+    by false is =
+        let no = sym met ∙ lt_is_gt e.key key ∙ upto keys key f.key e.key (sym (lt_is_gt f.key key) ∙ is)
+        (first_not (key_cmp f.key e.key) (nat_cmp e.version f.version) le) in
+        absurd cc
+
 pub none_upward : (way : Way) → IsUpward way (λ _. false)
 none_upward way e f met le = met
 
@@ -96,7 +113,7 @@ all_joined : {X : Type 0} (P : X → Type 0) (xs : List X) (y : X) → AllByRecu
 all_joined P [] y all here = (here, tt)
 all_joined P (x ∷ xs) y all here = (all.0, all_joined P xs y all.1 here)
 
-zip_none : {A B : Type 0} (R : A → B → Type 0) (xs : List A) (ys : List B) → ys ≡ [] → AllZip R xs ys → xs ≡ []
+pub zip_none : {A B : Type 0} (R : A → B → Type 0) (xs : List A) (ys : List B) → ys ≡ [] → AllZip R xs ys → xs ≡ []
 zip_none R [] ys none zip = refl
 zip_none R (x ∷ xs) [] none zip = absurd zip
 zip_none R (x ∷ xs) (y ∷ ys) none zip = absurd cc

@@ -21,6 +21,7 @@ pub mod Rows
 pub mod Scans
 pub mod Shared
 pub mod Sources
+pub mod Standing
 pub mod Values
 pub mod Whole
 -- Laws of these, which proofs of this crate and of others cite.

@@ -59,7 +59,7 @@ module _ {H : Type 0} (bytes_of : H → Option (List ℕ)) where
       pub deeper : AllReadTo is_met levels.deeper.items
 
     -- What these rows say was read whole: all of each source where there are fewer than may be, and else each up to an entry
-    -- that doesn't come before the last row.
+    -- whose key doesn't come before the last row's.
     pub record ScansWhole (levels : Levels H) (limit : ℕ) (rows : List Row) : Type 0 where
       pub all : length rows < limit → LevelsReadTo (λ _. false) levels
       pub to_rows : AllByRecursion (λ row. LevelsReadTo (is_past way row.0) levels) rows

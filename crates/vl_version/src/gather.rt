@@ -13,6 +13,7 @@ ghost use Rattle.vl_version.specs.Gathered.{Adds, IsQuiet, TellWinners, span_of}
 ghost use Rattle.vl_version.specs.Naming.{FailWithin};
 ghost use Rattle.vl_version.specs.Own.{own_entries};
 ghost use Rattle.vl_version.specs.Sources.{held_entries};
+ghost use Rattle.vl_version.specs.Standing.{AreStanding, ShowWinners};
 ghost use Rattle.vl_version.specs.Whole.{LevelsReadTo, LevelsStop, SourcesFail, SourcesStand};
 ghost use Rattle.vl_version.specs.declared.source.Source.TheVariants as source;
 ghost use Rattle.vl_version.specs.levels.LevelsLooked.{AreInOrder, tables_of};
@@ -50,6 +51,11 @@ pub fn sources_within<'a, H: HeldFile, R: Reader<Held = H> + Drop>(
         FailWithin H.bytes (span_of wanted.entry.low.now wanted.entry.high.now) (tables_of behind.now.levels) sources.items) }
     ensures reads { IfOk result (λ sources. (is_met : Entry → Bool) → SourcesStand H.bytes is_met sources.items
         → LevelsReadTo H.bytes (span_of wanted.entry.low.now wanted.entry.high.now) wanted.entry.way is_met behind.now.levels) }
+    ensures standing { IfOk result (λ sources. (tabled : List (List Entry))
+        → AreStanding H.bytes (span_of wanted.entry.low.now wanted.entry.high.now) wanted.entry.way behind.now.levels tabled
+        → ShowWinners H.bytes (span_of wanted.entry.low.now wanted.entry.high.now) wanted.entry.way
+        (own_entries number (entries own.now) ++ ((active.now.entries ++ held_entries behind.now.frozen.items) ++ joined tabled))
+        sources.items) }
     ensures stops { IfOk result (λ sources. (fault : ReadFault) → SourcesFail H.bytes fault sources.items
         → LevelsStop H.bytes (span_of wanted.entry.low.now wanted.entry.high.now) wanted.entry.way behind.now.levels fault) }
 {

@@ -16,6 +16,7 @@ ghost use Rattle.vl_version.specs.Near.{AreNear};
 ghost use Rattle.vl_version.specs.Over.{LooksOver};
 ghost use Rattle.vl_version.specs.Scans.{AreScanned, SomeAstray};
 ghost use Rattle.vl_version.specs.Sources.{AreTold, HasEntries, in_memory, stored_in, tables_in};
+ghost use Rattle.vl_version.specs.Standing.{DamagedOver, RowsOver};
 ghost use Rattle.vl_version.specs.Whole.{LevelsStop, ScansWhole};
 ghost use Rattle.vl_disk.specs.declared.read_fault.ReadFault.TheVariants as why;
 ghost use Rattle.vl_version.specs.levels.LevelsLooked.{AreLaidOut};
@@ -34,7 +35,9 @@ use crate::{Found, Levels, Wanted};
 use std::alloc::{AllocError, Global};
 use vl_disk::{HeldFile, ReadFault, Reader};
 use vl_memtable::{FrozenLog, Memtable, Run};
-use vl_merge::{Merge, Visible, merge_of_told_sources, visible_entries_are_the_winners};
+use vl_merge::{
+    Merge, Visible, merge_of_told_sources, merged_goes_along, visible_entries_are_the_winners,
+};
 use vl_model::{Entry, Key, Value, newest_ref};
 use vl_seglog::SealedLog;
 use vl_table::BlockReader;
@@ -200,11 +203,17 @@ impl<H: HeldFile> Version<H> {
         ensures whole { IfOk result (λ rows. ScansWhole H.bytes (span_of wanted.entry.low.now wanted.entry.high.now)
             wanted.entry.way self.now.behind.levels wanted.entry.limit rows.items) }
 
+        // Also where tables aren't true, the rows are those of memory and of the blocks that stand, whatever stands elsewhere.
+        ensures over { AreTold H.bytes self.now.behind.logs.items → IsAnswer (λ rows. RowsOver H.bytes self.now number
+            wanted.entry.low.now wanted.entry.high.now wanted.entry.limit wanted.entry.way own.now rows.items)
+            (DamagedOver H.bytes self.now number wanted.entry.low.now wanted.entry.high.now wanted.entry.way) result }
+
         // A fault is of the next block that was to be read, behind blocks that stand, or of a log.
         ensures stops { IfErr result (λ fault. LevelsStop H.bytes (span_of wanted.entry.low.now wanted.entry.high.now)
             wanted.entry.way self.now.behind.levels fault ⊎ IsLogFault self.now.behind.logs.items fault) }
     {
         merge_of_told_sources();
+        merged_goes_along();
         visible_entries_are_the_winners();
         let behind = self.behind.as_ref();
         let sources = sources_within(alloc, own, &self.active, behind, wanted, number)?;

@@ -3,7 +3,7 @@ ghost use Rattle.std.specs.FinMap.{get};
 ghost use Rattle.std.specs.Option.{option_map};
 ghost use Rattle.vl_disk.specs.Faults.{HasCause};
 ghost use Rattle.vl_reads.specs.Past.{AtFailed, IsAnsweredAt, IsRefusedAt, IsWithin, LooksBack, NamesAt, beginning};
-ghost use Rattle.vl_reads.specs.Reading.{IsOwn, IsRefusedBy, IsSound, LooksUp, LooksUpTagged};
+ghost use Rattle.vl_reads.specs.Reading.{IfDamaged, IsOwn, IsRefusedBy, IsSound, LooksUp, LooksUpTagged};
 ghost use Rattle.vl_version.specs.Gathered.{span_of};
 ghost use Rattle.vl_version.specs.Whole.{ScansWhole};
 ghost use Rattle.vl_version.specs.LiesOver.{IsInMemory, LiesOver};
@@ -18,7 +18,8 @@ ghost use Rattle.vl_table.specs.Kept.{Files};
 ghost use Rattle.vl_table.specs.KeptBlocks.{ReadsOf};
 ghost use Rattle.vl_txn.specs.Reads.{AddsSpan, after_get, scan_of, with_get, with_scan};
 ghost use Rattle.vl_txn.specs.Refusals.{refused_key};
-ghost use Rattle.vl_version.specs.Sources.{tables_in};
+ghost use Rattle.vl_version.specs.Sources.{AreTold, tables_in};
+ghost use Rattle.vl_version.specs.Standing.{DamagedOver, RowsOver};
 
 use crate::past::read_past;
 use crate::{AtFail, ReadFail, Rows, Txn};
@@ -119,6 +120,12 @@ impl<H: HeldFile, R: Reader<Held = H> + Drop> Txn<H, R> {
         // Nor is any passed over: of each source what the rows were said over was read whole.
         ensures whole { IfOk result (λ rows. ScansWhole H.bytes (span_of low.now high.now) way self.old.version.behind.levels
             limit rows.items) }
+
+        // Also where the tables aren't true, the rows are those of what stands, and damage is where it was met.
+        ensures over { AreTold H.bytes self.old.version.behind.logs.items → IfOk result (λ rows. RowsOver H.bytes self.old.version
+            self.old.number low.now high.now limit way self.old.writes rows.items) }
+        ensures damaged { AreTold H.bytes self.old.version.behind.logs.items
+            → IfDamaged (DamagedOver H.bytes self.old.version self.old.number low.now high.now way) result }
         ensures blocks { (files : Files) → ReadsOf H.bytes files self.old.reader (tables_in self.old.version)
             → ReadsOf H.bytes files self.new.reader (tables_in self.new.version) }
     {

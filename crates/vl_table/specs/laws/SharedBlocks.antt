@@ -1,7 +1,8 @@
 -- What was read of tables' copies was read of the tables.
 use mathlib.Core.List.{reverse_aux}
-use Rattle.std.specs.Prelude.{◌≡◌, ℕ, zero, suc, Bool, ◌&&◌, List, [], ◌∷◌, ◌++◌, map, Option, Some}
+use Rattle.std.specs.Prelude.{◌≡◌, ℕ, zero, suc, Bool, ◌&&◌, cond, List, [], ◌∷◌, ◌++◌, map, Option, Some, None}
 use Rattle.std.specs.List.{AllZip, slice_get}
+use Rattle.std.specs.Option.{option_and_then, option_map}
 use Rattle.std.proofs.Common.{ap, refl, sym, subst, ◌∙◌, inl, inr}
 use Rattle.vl_disk.specs.declared.name.Name.TheVariants.{Table as table_name}
 use Rattle.vl_disk.specs.declared.read_fault.ReadFault.{ReadFault}
@@ -10,12 +11,14 @@ use Rattle.vl_model.specs.declared.entry.Entry.{Entry}
 use Rattle.vl_model.specs.declared.span.Span.{Span}
 use Rattle.vl_model.specs.declared.way.Way.{Way}
 use Rattle.vl_model.specs.declared.way.Way.TheVariants.{Up, Down}
-use Rattle.vl_table.specs.CursorParts.{AllStand, Block, MayFailOn, StandsWith, StopsBefore, blocks_over, index_of, rise_over}
+use Rattle.vl_model.specs.EntryOrder.{within}
+use Rattle.vl_table.specs.CursorParts.{AllStand, Block, MayFailOn, StandsWith, StopsBefore, blocks_over, entries_over, entries_told, index_of, rise_over}
 use Rattle.vl_table.specs.CursorStops.{MayStopOn, StopIn}
 use Rattle.vl_table.specs.Kept.{NoBlock, StandsBlock}
 use Rattle.vl_table.specs.ReadTo.{IsCopied, OneHas, TablesReadTo}
 use Rattle.vl_table.specs.Seeks.{IsBadBlock}
 use Rattle.vl_table.specs.SpanBlocks.{blocks_in, rises_over}
+use Rattle.vl_table.specs.Standing.{standing_entries}
 use Rattle.vl_table.specs.Stretches.{on_way, stretch_of}
 use Rattle.vl_table.specs.Tables.{number_of, shape_of}
 use Rattle.vl_table.specs.declared.body.index.BlockPlace.{BlockPlace}
@@ -121,6 +124,26 @@ module _ {H : Type 0} (bytes_of : H → Option (List ℕ)) where
       let here : rises_over span (index_of u) ≡ rises_over span (index_of t) = ap (λ (s : TableShape). rises_over span s.blocks.items) zip.0.shape in
       let later = rise_alike span ts us zip.1 in
       λ i. here i && later i
+
+  -- ---- what is told
+
+  told_there : (span : Span) (way : Way) (bs cs : List (Block H)) → AllZip AreOneBlock bs cs
+      → entries_told bytes_of span way cs ≡ entries_told bytes_of span way bs
+  told_there span way [] [] zip = refl
+  told_there span way [] (c ∷ cs) zip = absurd zip
+  told_there span way (b ∷ bs) [] zip = absurd zip
+  told_there span way (b ∷ bs) (c ∷ cs) zip =
+      let later = told_there span way bs cs zip.1 in
+      let one = zip.0 in
+      λ i. option_and_then (λ bytes. option_map (λ l. within span (on_way way
+      (standing_entries (one.of.shape i).format (one.of.shape i).number bytes (one.place i))) ++ l) (later i)) (one.of.bytes i)
+
+  pub told_alike : (span : Span) (way : Way) (ts us : List (Table H)) → AllZip (IsCopied bytes_of) ts us
+      → entries_over bytes_of span way us ≡ entries_over bytes_of span way ts
+  told_alike span way ts us zip =
+      let told = told_there span way (blocks_over span way (on_way way ts)) (blocks_over span way (on_way way us))
+      (zip_over span way (on_way way ts) (on_way way us) (zip_way (IsCopied bytes_of) way ts us zip)) in
+      λ i. cond (rise_alike span ts us zip i) (told i) None
 
   -- ---- as far as blocks were read
 

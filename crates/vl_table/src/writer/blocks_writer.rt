@@ -4,7 +4,7 @@ ghost use Rattle.std.specs.List.{sum_by};
 ghost use Rattle.vl_frame.specs.Frame.{frame_bytes};
 ghost use Rattle.vl_frame.specs.declared.kinds.FrameKind.TheVariants as kinds;
 ghost use Rattle.vl_model.specs.declared.entry.Entry.{Entry};
-ghost use Rattle.vl_model.specs.Cutting.{block_frame_length, body_length, entry_length, last_key, max_block_bytes};
+ghost use Rattle.vl_model.specs.Cutting.{block_frame_length, blocks_from, body_length, entry_length, last_key, max_block_bytes};
 ghost use Rattle.vl_table.specs.body.Blocks.{block_body};
 ghost use Rattle.vl_table.specs.body.Entries.{IsEntry};
 ghost use Rattle.vl_table.specs.declared.writer.write_fail.WriteFail.TheVariants as why;
@@ -21,6 +21,9 @@ const MAX_BLOCK_BYTES: usize = 4096;
 
 // Behind its blocks no table is longer.
 const MAX_PLACE: u64 = u32::MAX as u64;
+
+// A block's frame has so many bytes beside its entries: those around its body, and their count.
+const BLOCK_BYTES: u64 = FRAME_BYTES as u64 + 4;
 
 /// The blocks of a table that is written: where those that are closed stand, and the body of the open one.
 #[derive(Drop)]
@@ -65,16 +68,17 @@ impl BlocksWriter {
         self.place - HEADER_BYTES as u64 + (self.written.len() + FRAME_BYTES) as u64
     }
 
-    /// Whether the blocks end at 2^32 or behind it with an entry in the open one.
+    /// Whether the blocks end at 2^32 or behind it with an entry more, which begins one where the open one has no room.
     pub fn is_full(&self, entry: &Entry) -> bool
         ensures { (closed : List (List Entry)) (open_block : List Entry) → HasBlocks self.now closed open_block
-            → result ≡ nat_le (2 ^ 32) (end_of (closed ++ (open_block ++ entry.now ∷ []) ∷ [])) }
+            → result ≡ nat_le (2 ^ 32) (end_of (closed
+            ++ blocks_from table_format open_block (length (block_body table_format open_block)) (entry.now ∷ []))) }
     {
         let end = self.place + (self.written.len() + FRAME_BYTES) as u64;
-        if end > MAX_PLACE {
-            return true;
+        if self.has_room(entry) {
+            return is_past_end(end, entry);
         }
-        !fits(entry, (MAX_PLACE - end) as usize)
+        is_past_end(end + BLOCK_BYTES, entry)
     }
 
     /// Adds an entry that a table may have to the open block.
@@ -110,6 +114,16 @@ impl BlocksWriter {
         self.place += length as u64;
         Ok(())
     }
+}
+
+// Whether an entry at a place ends at 2^32 or behind it.
+fn is_past_end(place: u64, entry: &Entry) -> bool
+    ensures { result ≡ nat_le (2 ^ 32) (place + entry_length table_format entry.now) }
+{
+    if place > MAX_PLACE {
+        return true;
+    }
+    !fits(entry, (MAX_PLACE - place) as usize)
 }
 
 // Whether an entry takes at most so many bytes.

@@ -69,11 +69,9 @@ impl TableWriter {
         ensures refused { (number : ℕ) (es : List Entry) (given : List ℕ) → IsWriting self.old number es given
             → ((result ≡ Err AddFail.NotLawful) ↔ ¬ MayCome es entry.now) }
 
-        // It is too long exactly where the blocks would end at 2^32 or behind it, unless memory runs out.
+        // It is too long exactly where the blocks would end at 2^32 or behind it, whatever memory there is.
         ensures too_long { (number : ℕ) (es : List Entry) (given : List ℕ) → IsWriting self.old number es given
-            → IsErrOf result AddFail.TooLong → MayCome es entry.now × (2 ^ 32 ≤ blocks_end (es ++ entry.now ∷ [])) }
-        ensures short { (number : ℕ) (es : List Entry) (given : List ℕ) → IsWriting self.old number es given
-            → OnOk result (blocks_end (es ++ entry.now ∷ []) < 2 ^ 32) }
+            → (IsErrOf result AddFail.TooLong ↔ (MayCome es entry.now × (2 ^ 32 ≤ blocks_end (es ++ entry.now ∷ [])))) }
     {
         if !self.may_come(entry) {
             return Err(AddFail::NotLawful);
@@ -97,14 +95,12 @@ impl TableWriter {
             → OnOk result (Appended out.old.items out.new.items
             (λ piece. IsWriting self.new number (es ++ entry.now ∷ []) (given ++ piece))) }
         ensures too_long { (number : ℕ) (es : List Entry) (given : List ℕ) → IsWriting self.old number es given
-            → IsErrOf result why.TooLong → 2 ^ 32 ≤ blocks_end (es ++ entry.now ∷ []) }
-        ensures short { (number : ℕ) (es : List Entry) (given : List ℕ) → IsWriting self.old number es given
-            → OnOk result (blocks_end (es ++ entry.now ∷ []) < 2 ^ 32) }
+            → (IsErrOf result why.TooLong ↔ (2 ^ 32 ≤ blocks_end (es ++ entry.now ∷ []))) }
     {
-        self.make_room(out, entry)?;
         if self.blocks.is_full(entry) {
             return Err(WriteFail::TooLong);
         }
+        self.make_room(out, entry)?;
         self.blocks.add(entry)?;
         self.summary.add(entry)?;
         Ok(())

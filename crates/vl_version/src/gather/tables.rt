@@ -1,6 +1,7 @@
 //! The tables of a scan: those whose ranges meet its interval.
 
 ghost use Rattle.std.specs.Prelude.{◌≡◌, ◌⊎◌, ◌++◌, ◌∷◌, [], List, IfOk, OnOk};
+ghost use Rattle.std.specs.List.{AllZip};
 ghost use Rattle.vl_model.specs.Cutting.{joined};
 ghost use Rattle.vl_model.specs.declared.entry.Entry.{Entry};
 ghost use Rattle.vl_table.specs.OfTables.{AreOf};
@@ -8,6 +9,7 @@ ghost use Rattle.vl_table.specs.Tables.{IsOf};
 ghost use Rattle.vl_table.specs.declared.table.Table.{Table};
 ghost use Rattle.vl_version.specs.Gathered.{Adds, HaveWithin};
 ghost use Rattle.vl_version.specs.Naming.{AddFaults, MeetFaults};
+ghost use Rattle.vl_version.specs.Standing.{AddsShown, AreStanding, IsStanding};
 ghost use Rattle.vl_version.specs.Whole.{AddReads, AllReadTo, AreMet, EachReadTo, LevelsReadTo, MetReadTo};
 ghost use Rattle.vl_version.specs.Whole.{AddStops, EachStops, MetStop, OneStops};
 ghost use Rattle.vl_version.specs.levels.LevelTables.{AreAllApart, AreApart, all_tables};
@@ -35,6 +37,8 @@ pub fn add_levels<'a, H: HeldFile, R: Reader<Held = H> + Drop>(
     ensures faults { OnOk result (AddFaults H.bytes span.now (tables_of levels.now) sources.old.items sources.new.items) }
     ensures reads { OnOk result (AddReads H.bytes (λ is_met. LevelsReadTo H.bytes span.now way is_met levels.now)
         sources.old.items sources.new.items) }
+    ensures standing { OnOk result ((tabled : List (List Entry)) → AreStanding H.bytes span.now way levels.now tabled
+        → AddsShown H.bytes span.now way (joined tabled) sources.old.items sources.new.items) }
     ensures stops { OnOk result (AddStops H.bytes (λ fault. EachStops H.bytes span.now way fault levels.now.newest.items
         ⊎ OneStops H.bytes span.now way fault levels.now.deeper.items)
         sources.old.items sources.new.items) }
@@ -57,6 +61,9 @@ fn add_newest<'a, H: HeldFile, R: Reader<Held = H> + Drop>(
     ensures faults { OnOk result (AddFaults H.bytes span.now tables.now sources.old.items sources.new.items) }
     ensures reads { OnOk result (AddReads H.bytes (λ is_met. EachReadTo H.bytes span.now way is_met tables.now)
         sources.old.items sources.new.items) }
+    ensures standing { OnOk result ((tabled : List (List Entry))
+        → AllZip (λ t es. IsStanding H.bytes span.now way (t ∷ []) es) tables.now tabled
+        → AddsShown H.bytes span.now way (joined tabled) sources.old.items sources.new.items) }
     ensures stops { OnOk result (AddStops H.bytes (λ fault. EachStops H.bytes span.now way fault tables.now)
         sources.old.items sources.new.items) }
 {
@@ -80,6 +87,8 @@ fn add_deeper<'a, H: HeldFile, R: Reader<Held = H> + Drop>(
     ensures faults { OnOk result (AddFaults H.bytes span.now (all_tables levels.now) sources.old.items sources.new.items) }
     ensures reads { OnOk result (AddReads H.bytes (λ is_met. AllReadTo H.bytes span.now way is_met levels.now)
         sources.old.items sources.new.items) }
+    ensures standing { OnOk result ((tabled : List (List Entry)) → AllZip (IsStanding H.bytes span.now way) levels.now tabled
+        → AddsShown H.bytes span.now way (joined tabled) sources.old.items sources.new.items) }
     ensures stops { OnOk result (AddStops H.bytes (λ fault. OneStops H.bytes span.now way fault levels.now)
         sources.old.items sources.new.items) }
 {
@@ -103,6 +112,8 @@ fn add_tables<'a, H: HeldFile, R: Reader<Held = H> + Drop>(
     ensures faults { OnOk result (AddFaults H.bytes span.now tables.now sources.old.items sources.new.items) }
     ensures reads { OnOk result (AddReads H.bytes (λ is_met. MetReadTo H.bytes span.now way is_met tables.now)
         sources.old.items sources.new.items) }
+    ensures standing { OnOk result ((es : List Entry) → IsStanding H.bytes span.now way tables.now es
+        → AddsShown H.bytes span.now way es sources.old.items sources.new.items) }
     ensures stops { OnOk result (AddStops H.bytes (λ fault. MetStop H.bytes span.now way fault tables.now)
         sources.old.items sources.new.items) }
 {

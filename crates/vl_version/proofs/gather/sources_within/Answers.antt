@@ -12,6 +12,11 @@ use Rattle.vl_version.specs.levels.LevelsLooked.{tables_of}
 use Rattle.vl_version.specs.Whole.{LevelsReadTo, LevelsStop}
 use Rattle.vl_version.proofs.WholeLaws.{stops_levels, stops_memory}
 use Rattle.std.proofs.Common.{inl, inr}
+use Rattle.std.proofs.Common.{append_assoc}
+use Rattle.vl_model.specs.declared.entry.Entry.{Entry}
+use Rattle.vl_version.specs.Gathered.{TellWinners, span_of}
+use Rattle.vl_version.specs.Standing.{AddsShown, AreStanding, ShowWinners}
+use Rattle.vl_version.proofs.StandingLaws.{shows_of}
 use Rattle.vl_version.proofs.gather.sources_within.Goals as goal
 
 pub returns-clause-winners : goal.returns-clause-winners
@@ -62,3 +67,27 @@ returns-clause-stops g c = λ fault fails.
       | inl before ↦ stops_memory bytes span way levels fault (held fault before)
       | inr one ↦ stops_levels bytes span way levels fault one
     ])
+
+pub returns-clause-standing : goal.returns-clause-standing
+returns-clause-standing g c tabled are =
+    let bytes = g.H.HeldFile.bytes in
+    let way = c.args.wanted.way in
+    let span = span_of c.args.wanted.low.now c.args.wanted.high.now in
+    let levels = c.args.behind.now.levels in
+    let held = held_entries c.args.behind.now.frozen.items in
+    let own = own_entries c.args.number (entries c.args.own.now) in
+    let first = c.in_ok-sources.sources.items in
+    let then_active = c.add_memtable.new.sources.items in
+    let then_frozen = c.add_frozen.new.sources.items in
+    let all = c.add_levels.new.sources.items in
+    let frozen = subst (λ (l : List FrozenLog). Adds bytes c.in_ok-span.span way (held_entries l) then_active then_frozen)
+    c.deref.ensures.value c.in_ok-add_frozen.ensures.winners in
+    let memory = subst (λ (s : Span). Adds bytes s way (c.args.active.now.entries ++ held) first then_frozen) c.in_ok-span.ensures
+    (adds_then bytes c.in_ok-span.span way c.args.active.now.entries held first then_active then_frozen
+    c.in_ok-add_memtable.ensures.winners frozen) in
+    let tables = subst (λ (s : Span). (tabled : List (List Entry)) → AreStanding bytes s way levels tabled
+    → AddsShown bytes s way (joined tabled) then_frozen all) c.in_ok-span.ensures c.in_ok-add_levels.ensures.standing in
+    subst (λ (l : List Entry). ShowWinners bytes span way l all)
+    (append_assoc own (c.args.active.now.entries ++ held) (joined tabled))
+    (tables tabled are (own ++ (c.args.active.now.entries ++ held))
+    (shows_of bytes span way (own ++ (c.args.active.now.entries ++ held)) then_frozen (memory own c.in_ok-sources.ensures.winners)))

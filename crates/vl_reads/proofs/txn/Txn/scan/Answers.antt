@@ -1,5 +1,5 @@
 use Rattle.std.proofs.Common.{refl, Global, Vec}
-use Rattle.vl_reads.proofs.Seeing.{fails_so, fault_near, fault_sound, kept_beside, on_error, sees_scan, sees_still}
+use Rattle.vl_reads.proofs.Seeing.{damage_so, fails_so, fault_near, fault_sound, kept_beside, on_error, sees_scan, sees_still}
 use Rattle.vl_reads.specs.laws.ReadLaws.{contents_stand, none_astray}
 use Rattle.vl_model.specs.Keys.{Row}
 use Rattle.vl_version.specs.Scans.{AreScanned, SomeAstray}
@@ -8,6 +8,7 @@ use Rattle.vl_model.specs.History.{contents_at}
 use Rattle.vl_version.specs.Gathered.{span_of}
 use Rattle.vl_version.specs.Naming.{IsLogFault, IsScanFault}
 use Rattle.vl_version.specs.Whole.{LevelsStop}
+use Rattle.vl_version.specs.Standing.{DamagedOver, RowsOver}
 use Rattle.std.specs.Prelude.{◌⊎◌}
 use Rattle.vl_version.specs.Sources.{tables_in}
 use Rattle.vl_reads.proofs.txn.Txn.scan.Goals as goal
@@ -69,3 +70,14 @@ returns-in_err-rows-clause-stops g c =
     fails_so (λ fault. LevelsStop g.H.HeldFile.bytes (span_of c.args.low.now c.args.high.now) c.args.way version.behind.levels fault
     ⊎ IsLogFault version.behind.logs.items fault)
     c.in_err-rows.field-0.0 c.in_err-rows.ensures.stops c.from_residual-in_err-rows.result c.from_residual-in_err-rows.ensures.1
+
+pub returns-clause-over : goal.returns-clause-over
+returns-clause-over g c = c.in_ok-rows.ensures.over
+
+pub returns-in_err-rows-clause-damaged : goal.returns-in_err-rows-clause-damaged
+returns-in_err-rows-clause-damaged g c told =
+    let version = c.args.self.now.version in
+    let number = c.args.self.now.number in
+    damage_so (λ (rows : Vec Row Global). RowsOver g.H.HeldFile.bytes version number c.args.low.now c.args.high.now c.args.limit c.args.way
+    c.args.self.now.writes rows.items) (DamagedOver g.H.HeldFile.bytes version number c.args.low.now c.args.high.now c.args.way)
+    c.in_err-rows.field-0.0 (c.in_err-rows.ensures.over told) c.from_residual-in_err-rows.result c.from_residual-in_err-rows.ensures.1

@@ -1,6 +1,6 @@
-use Rattle.std.proofs.Common.{ap, ◌∙◌, refl, Global, Vec}
+use Rattle.std.proofs.Common.{ap, ◌∙◌, refl, subst, Global, Vec}
 use Rattle.vl_reads.specs.Reading.{rows_under}
-use Rattle.vl_reads.proofs.Seeing.{fails_so, fault_near, fault_sound, kept_beside, sees_alone_still}
+use Rattle.vl_reads.proofs.Seeing.{damage_so, fails_so, fault_near, fault_sound, kept_beside, sees_alone_still}
 use Rattle.vl_reads.specs.laws.ReadLaws.{contents_stand, none_astray}
 use Rattle.vl_version.specs.Scans.{AreScanned, SomeAstray}
 use Rattle.vl_version.specs.declared.wanted.Wanted.{Wanted}
@@ -9,6 +9,7 @@ use Rattle.vl_model.specs.Keys.{Row, Writes}
 use Rattle.vl_version.specs.Gathered.{span_of}
 use Rattle.vl_version.specs.Naming.{IsLogFault, IsScanFault}
 use Rattle.vl_version.specs.Whole.{LevelsStop}
+use Rattle.vl_version.specs.Standing.{DamagedOver, RowsOver}
 use Rattle.std.specs.Prelude.{◌⊎◌}
 use Rattle.vl_version.specs.Sources.{tables_in}
 use Rattle.vl_reads.proofs.view.View.scan.Goals as goal
@@ -62,3 +63,16 @@ returns-in_err-rows-clause-stops g c =
     fails_so (λ fault. LevelsStop g.H.HeldFile.bytes (span_of c.args.low.now c.args.high.now) c.args.way version.behind.levels fault
     ⊎ IsLogFault version.behind.logs.items fault)
     c.in_err-rows.field-0.0 c.in_err-rows.ensures.stops c.from_residual-in_err-rows.result c.from_residual-in_err-rows.ensures.1
+
+pub returns-clause-over : goal.returns-clause-over
+returns-clause-over g c told =
+    subst (λ (own : Writes). RowsOver g.H.HeldFile.bytes c.args.self.now.version c.args.self.now.number c.args.low.now c.args.high.now
+    c.args.limit c.args.way own c.in_ok-rows.field-0.items) c.new-own.ensures (c.in_ok-rows.ensures.over told)
+
+pub returns-in_err-rows-clause-damaged : goal.returns-in_err-rows-clause-damaged
+returns-in_err-rows-clause-damaged g c told =
+    let version = c.args.self.now.version in
+    let number = c.args.self.now.number in
+    damage_so (λ (rows : Vec Row Global). RowsOver g.H.HeldFile.bytes version number c.args.low.now c.args.high.now c.args.limit c.args.way
+    c.new-own.result rows.items) (DamagedOver g.H.HeldFile.bytes version number c.args.low.now c.args.high.now c.args.way)
+    c.in_err-rows.field-0.0 (c.in_err-rows.ensures.over told) c.from_residual-in_err-rows.result c.from_residual-in_err-rows.ensures.1

@@ -4,11 +4,11 @@ use Rattle.std.specs.List.{slice_get}
 use Rattle.std.specs.Option.{option_map}
 use Rattle.vl_model.specs.declared.entry.Entry.{Entry}
 use Rattle.vl_model.specs.EntryOrder.{within}
-use Rattle.vl_table.specs.CursorParts.{blocks_over, entries_told}
+use Rattle.vl_table.specs.CursorParts.{blocks_over, entries_told, rise_over}
 use Rattle.vl_table.specs.Stretches.{on_way, stretch_of}
 use Rattle.vl_table.specs.declared.stretch.Stretch.{Stretch}
 use Rattle.vl_table.specs.declared.table.Table.{Table}
-use Rattle.vl_table.proofs.CursorSteps.{left_of, none_at}
+use Rattle.vl_table.proofs.CursorSteps.{left_begun, left_of, none_at}
 use Rattle.vl_table.proofs.StandingSteps.{stands_begun}
 use Rattle.vl_table.proofs.StoppingSteps.{stops_begun}
 use Rattle.vl_table.proofs.StretchSteps.{end_on}
@@ -45,6 +45,16 @@ returns-clause-begins g c =
       unread = λ i. none_at way (slice_get ts 0) nothing past i ++ blocks_over span way (on_way way (whole i));
       none = ap (within span) (end_on way nothing c.in_ok-new.field-0 past);
     }
+
+pub returns-clause-tells : goal.returns-clause-tells
+returns-clause-tells g c =
+    let bytes = g.H.HeldFile.bytes in
+    let span = c.args.span in
+    let way = c.args.way in
+    let ts = c.args.tables.items in
+    let begins = returns-clause-begins g c in
+    (λ i. left_of (rise_over span ts) (begins.none i) (entries_told bytes span way (begins.unread i)))
+    ∙ left_begun (rise_over span ts) (entries_told bytes span way (blocks_over span way (on_way way ts)))
 
 pub returns-clause-may_fail : goal.returns-clause-may_fail
 returns-clause-may_fail g c = λ fault fails.

@@ -9,6 +9,11 @@ use Rattle.vl_version.specs.Naming.{AddFaults}
 use Rattle.vl_version.specs.Whole.{AddReads, AddStops, AllReadTo, MetReadTo, MetStop, OneStops}
 use Rattle.vl_version.proofs.WholeLaws.{adds_next_read, adds_next_stop, adds_no_reads, adds_no_stops}
 use Rattle.vl_version.proofs.NamingLaws.{adds_fault_next, adds_no_faults}
+use Rattle.vl_version.specs.Standing.{AddsShown, IsStanding}
+use Rattle.vl_version.proofs.StandingLaws.{shown_first, shown_next}
+use Rattle.vl_model.specs.Cutting.{joined}
+use Rattle.vl_model.specs.declared.entry.Entry.{Entry}
+use Rattle.std.specs.List.{AllZip}
 use Rattle.vl_version.proofs.gather.tables.add_deeper.Goals as goal
 
 pub loop-level-init : goal.loop-level-init
@@ -20,6 +25,8 @@ loop-level-init g c = record {
       (λ is_met. AllReadTo g.H.HeldFile.bytes c.args.span.now c.args.way is_met []) c.args.sources.now.items (λ is_met. tt);
   stops = adds_no_stops g.H.HeldFile.bytes c.args.span.now c.args.way
       (λ fault. OneStops g.H.HeldFile.bytes c.args.span.now c.args.way fault []) c.args.sources.now.items;
+  standing = shown_first g.H.HeldFile.bytes c.args.span.now c.args.way (IsStanding g.H.HeldFile.bytes c.args.span.now c.args.way)
+      c.args.sources.now.items;
 }
 
 pub loop-level-preserved : goal.loop-level-preserved
@@ -44,6 +51,9 @@ loop-level-preserved g c =
       reads = adds_next_read bytes c.args.span.now c.args.way (MetReadTo bytes c.args.span.now c.args.way) ls i level
           c.args.sources.now.items c.loop-level.sources.items c.add_tables.new.sources.items c.loop-level-test.true is
           c.loop-level.invariant.reads c.in_ok-add_tables.ensures.reads;
+      standing = shown_next bytes c.args.span.now c.args.way (IsStanding bytes c.args.span.now c.args.way) ls i level
+          c.args.sources.now.items c.loop-level.sources.items c.add_tables.new.sources.items c.loop-level-test.true is
+          c.loop-level.invariant.standing c.in_ok-add_tables.ensures.standing;
       stops = adds_next_stop bytes c.args.span.now c.args.way (MetStop bytes c.args.span.now c.args.way) ls i level
           c.args.sources.now.items c.loop-level.sources.items c.add_tables.new.sources.items c.loop-level-test.true is
           c.loop-level.invariant.stops c.in_ok-add_tables.ensures.stops;
@@ -72,3 +82,10 @@ returns-clause-stops g c =
     subst (λ (l : List (List (Table g.row.H.Denot))). AddStops g.H.HeldFile.bytes
     (λ fault. OneStops g.H.HeldFile.bytes c.args.span.now c.args.way fault l) c.args.sources.now.items c.loop-level.sources.items)
     (take_all c.loop-level.level-index c.args.levels.now c.loop-level-test.false) c.loop-level.invariant.stops
+
+pub returns-clause-standing : goal.returns-clause-standing
+returns-clause-standing g c =
+    subst (λ (l : List (List (Table g.row.H.Denot))). (tabled : List (List Entry))
+    → AllZip (IsStanding g.H.HeldFile.bytes c.args.span.now c.args.way) l tabled
+    → AddsShown g.H.HeldFile.bytes c.args.span.now c.args.way (joined tabled) c.args.sources.now.items c.loop-level.sources.items)
+    (take_all c.loop-level.level-index c.args.levels.now c.loop-level-test.false) c.loop-level.invariant.standing

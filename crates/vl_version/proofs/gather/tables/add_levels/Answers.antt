@@ -8,6 +8,12 @@ use Rattle.vl_version.specs.Naming.{AddFaults}
 use Rattle.vl_version.specs.Whole.{AddStops, AllReadTo, EachReadTo, EachStops, OneStops}
 use Rattle.vl_version.proofs.WholeLaws.{adds_both_stops}
 use Rattle.vl_version.proofs.NamingLaws.{adds_fault_next}
+use Rattle.vl_version.specs.Standing.{AddsShown, IsStanding}
+use Rattle.vl_version.proofs.StandingLaws.{joined_both, shown_then}
+use Rattle.vl_model.specs.Cutting.{joined}
+use Rattle.vl_model.specs.declared.entry.Entry.{Entry}
+use Rattle.std.specs.List.{AllZip}
+use Rattle.std.proofs.Common.{◌∷◌, []}
 use Rattle.vl_version.proofs.gather.tables.add_levels.Goals as goal
 
 pub returns-clause-winners : goal.returns-clause-winners
@@ -81,3 +87,21 @@ returns-clause-stops g c =
     (subst (λ (l : List (List (Table g.row.H.Denot))). AddStops bytes (λ fault. OneStops bytes span c.args.way fault l)
     c.add_newest.new.sources.items c.add_deeper.new.sources.items) c.deeper.ensures stops))
     c.add_deeper.ensures.stops
+
+pub returns-clause-standing : goal.returns-clause-standing
+returns-clause-standing g c =
+    on_ok_weaker c.add_deeper.result
+    (λ adds tabled are.
+    let bytes = g.H.HeldFile.bytes in
+    let span = c.args.span.now in
+    let way = c.args.way in
+    subst (λ (l : List Entry). AddsShown bytes span way l c.args.sources.now.items c.add_deeper.new.sources.items)
+    (sym (ap joined are.are ∙ joined_both are.newest are.deeper))
+    (shown_then bytes span way (joined are.newest) (joined are.deeper) c.args.sources.now.items c.add_newest.new.sources.items
+    c.add_deeper.new.sources.items
+    (c.in_ok-add_newest.ensures.standing are.newest
+    (subst (λ (l : List (Table g.row.H.Denot)). AllZip (λ (t : Table g.row.H.Denot) (es : List Entry). IsStanding bytes span way (t ∷ []) es) l are.newest)
+    (sym c.newest.ensures) are.each))
+    (adds are.deeper
+    (subst (λ (l : List (List (Table g.row.H.Denot))). AllZip (IsStanding bytes span way) l are.deeper) (sym c.deeper.ensures) are.all))))
+    c.add_deeper.ensures.standing

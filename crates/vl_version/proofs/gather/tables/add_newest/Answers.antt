@@ -8,6 +8,11 @@ use Rattle.vl_version.specs.Naming.{AddFaults}
 use Rattle.vl_version.specs.Whole.{AddReads, AddStops, EachReadTo, EachStops, MetReadTo, MetStop}
 use Rattle.vl_version.proofs.WholeLaws.{adds_next_read, adds_next_stop, adds_no_reads, adds_no_stops}
 use Rattle.vl_version.proofs.NamingLaws.{adds_fault_next, adds_no_faults}
+use Rattle.vl_version.specs.Standing.{AddsShown, IsStanding}
+use Rattle.vl_version.proofs.StandingLaws.{shown_first, shown_next}
+use Rattle.vl_model.specs.Cutting.{joined}
+use Rattle.vl_model.specs.declared.entry.Entry.{Entry}
+use Rattle.std.specs.List.{AllZip}
 use Rattle.vl_version.proofs.gather.tables.add_newest.Goals as goal
 
 pub loop-at-init : goal.loop-at-init
@@ -19,6 +24,9 @@ loop-at-init g c = record {
       (λ is_met. EachReadTo g.H.HeldFile.bytes c.args.span.now c.args.way is_met []) c.args.sources.now.items (λ is_met. tt);
   stops = adds_no_stops g.H.HeldFile.bytes c.args.span.now c.args.way
       (λ fault. EachStops g.H.HeldFile.bytes c.args.span.now c.args.way fault []) c.args.sources.now.items;
+  standing = shown_first g.H.HeldFile.bytes c.args.span.now c.args.way
+      (λ (t : Table g.row.H.Denot) (es : List Entry). IsStanding g.H.HeldFile.bytes c.args.span.now c.args.way (t ∷ []) es)
+      c.args.sources.now.items;
 }
 
 pub loop-at-preserved : goal.loop-at-preserved
@@ -48,6 +56,12 @@ loop-at-preserved g c =
           (subst (λ (l : List (Table g.row.H.Denot)). AddReads bytes
           (λ is_met. MetReadTo bytes c.args.span.now c.args.way is_met l) c.loop-at.sources.items c.add_tables.new.sources.items)
           (one_at ts i (i + 1 - i) t.0 inside t.1 (omega arith)) c.in_ok-add_tables.ensures.reads);
+      standing = shown_next bytes c.args.span.now c.args.way
+          (λ (u : Table g.row.H.Denot) (es : List Entry). IsStanding bytes c.args.span.now c.args.way (u ∷ []) es) ts i t.0 c.args.sources.now.items
+          c.loop-at.sources.items c.add_tables.new.sources.items inside t.1 c.loop-at.invariant.standing
+          (λ es so. c.in_ok-add_tables.ensures.standing es
+          (subst (λ (l : List (Table g.row.H.Denot)). IsStanding bytes c.args.span.now c.args.way l es)
+          (sym (one_at ts i (i + 1 - i) t.0 inside t.1 (omega arith))) so));
       stops = adds_next_stop bytes c.args.span.now c.args.way
           (λ fault u. MetStop bytes c.args.span.now c.args.way fault (u ∷ [])) ts i t.0 c.args.sources.now.items
           c.loop-at.sources.items c.add_tables.new.sources.items inside t.1 c.loop-at.invariant.stops
@@ -78,3 +92,10 @@ returns-clause-stops g c =
     subst (λ (l : List (Table g.row.H.Denot)). AddStops g.H.HeldFile.bytes
     (λ fault. EachStops g.H.HeldFile.bytes c.args.span.now c.args.way fault l) c.args.sources.now.items c.loop-at.sources.items)
     (take_all c.loop-at.at c.args.tables.now c.loop-at-test.false) c.loop-at.invariant.stops
+
+pub returns-clause-standing : goal.returns-clause-standing
+returns-clause-standing g c =
+    subst (λ (l : List (Table g.row.H.Denot)). (tabled : List (List Entry))
+    → AllZip (λ (t : Table g.row.H.Denot) (es : List Entry). IsStanding g.H.HeldFile.bytes c.args.span.now c.args.way (t ∷ []) es) l tabled
+    → AddsShown g.H.HeldFile.bytes c.args.span.now c.args.way (joined tabled) c.args.sources.now.items c.loop-at.sources.items)
+    (take_all c.loop-at.at c.args.tables.now c.loop-at-test.false) c.loop-at.invariant.standing

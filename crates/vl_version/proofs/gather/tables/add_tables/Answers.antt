@@ -6,6 +6,8 @@ use Rattle.vl_version.proofs.TableSources.{adds_cursor, adds_without, no_items, 
 use Rattle.vl_table.specs.ReadTo.{TablesReadTo}
 use Rattle.vl_version.proofs.WholeLaws.{adds_cursor_reads, adds_cursor_stops, adds_no_stops, adds_unmet}
 use Rattle.vl_version.specs.Whole.{MetStop}
+use Rattle.vl_table.specs.CursorParts.{entries_over}
+use Rattle.vl_version.proofs.StandingLaws.{shown_cursor, shown_unmet}
 use Rattle.vl_table.specs.CursorStops.{MayStopOn}
 use Rattle.vl_version.proofs.NamingLaws.{adds_cursor_faults, adds_unread}
 use Rattle.vl_version.proofs.gather.tables.add_tables.Goals as goal
@@ -49,6 +51,19 @@ returns-clause-reads g c =
     c.args.sources.now.items c.push.new.self.items c.in_ok-met.ensures.copies
     (λ is_met stands. subst (λ (s : Span). TablesReadTo g.H.HeldFile.bytes s c.args.way is_met c.in_ok-met.met.items)
     c.in_ok-share_span.ensures (c.in_ok-cursor.ensures.stands is_met stands)) c.in_ok-push.ensures.items
+
+pub returns-then-is_empty-clause-standing : goal.returns-then-is_empty-clause-standing
+returns-then-is_empty-clause-standing g c =
+    shown_unmet g.H.HeldFile.bytes c.args.span.now c.args.way c.args.tables.now c.in_ok-met.met.items c.args.sources.now.items
+    c.in_ok-met.ensures.copies (no_items c.in_ok-met.met (sym c.is_empty.ensures ∙ c.if-is_empty.true))
+
+pub returns-clause-standing : goal.returns-clause-standing
+returns-clause-standing g c =
+    shown_cursor g.H.HeldFile.bytes c.args.span.now c.args.way c.args.tables.now c.in_ok-met.met.items c.in_ok-cursor.cursor
+    c.args.sources.now.items c.push.new.self.items c.in_ok-met.ensures.copies
+    (c.in_ok-cursor.ensures.tells
+    ∙ ap (λ (s : Span). entries_over g.H.HeldFile.bytes s c.args.way c.in_ok-met.met.items) c.in_ok-share_span.ensures)
+    c.in_ok-push.ensures.items
 
 pub returns-then-is_empty-clause-stops : goal.returns-then-is_empty-clause-stops
 returns-then-is_empty-clause-stops g c =

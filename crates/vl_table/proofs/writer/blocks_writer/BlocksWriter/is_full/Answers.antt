@@ -1,24 +1,16 @@
-use Rattle.std.proofs.Common.{◌≤◌, ◌+◌, ◌∙◌, ap, arith, not, refl}
-use Rattle.vl_model.specs.Cutting.{entry_length}
-use Rattle.vl_model.specs.Formats.{table_format}
-use Rattle.vl_table.proofs.Written.{full_is, past_end, up_to_end}
+use Rattle.std.proofs.Common.{◌^◌, ◌∙◌, ap, sym}
+use Rattle.std.specs.Prelude.{nat_le}
+use Rattle.vl_table.proofs.Written.{ends_behind, ends_open}
 use Rattle.vl_table.proofs.writer.blocks_writer.BlocksWriter.is_full.Goals as goal
 
-pub returns-then-end-gt-MAX_PLACE : goal.returns-then-end-gt-MAX_PLACE
-returns-then-end-gt-MAX_PLACE c = λ closed open_block has.
-    let s = c.args.self.now in
-    let e = c.args.entry.now in
-    past_end (s.place + (c.len.result + 13)) (entry_length table_format e) _
-    (full_is closed open_block e s.place c.len.result (s.place + (c.len.result + 13)) has.place
-    (c.len.ensures.exact open_block has.written) refl)
-    c.if-end-gt-MAX_PLACE.true
+pub returns-then-has_room : goal.returns-then-has_room
+returns-then-has_room c = λ closed open_block has.
+    c.is_past_end.ensures
+    ∙ ap (nat_le (2 ^ 32)) (sym (ends_open closed open_block c.args.entry.now c.args.self.now.place c.len.result has.place
+    (c.len.ensures.exact open_block has.written) (sym (c.has_room.ensures closed open_block has) ∙ c.if-has_room.true)))
 
 pub returns : goal.returns
 returns c = λ closed open_block has.
-    let s = c.args.self.now in
-    let e = c.args.entry.now in
-    let low : s.place + (c.len.result + 13) ≤ 4294967295 = omega (arith, c.if-end-gt-MAX_PLACE.false) in
-    ap not c.fits.ensures
-    ∙ up_to_end (s.place + (c.len.result + 13)) (entry_length table_format e) _
-    (full_is closed open_block e s.place c.len.result (s.place + (c.len.result + 13)) has.place
-    (c.len.ensures.exact open_block has.written) refl) low
+    c.is_past_end-2.ensures
+    ∙ ap (nat_le (2 ^ 32)) (sym (ends_behind closed open_block c.args.entry.now c.args.self.now.place c.len.result has.place
+    (c.len.ensures.exact open_block has.written) (sym (c.has_room.ensures closed open_block has) ∙ c.if-has_room.false)))
