@@ -2,8 +2,10 @@
 pub mod BehindLaws
 pub mod Chosen
 pub mod Counted
-pub mod FirstTable
+pub mod FirstTableLaws
 pub mod ProgressLaws
 pub mod RaceLaws
+pub mod ReadLaws
 pub mod Repeats
 pub mod WalkLaws
+pub mod WholeLaws

@@ -40,6 +40,7 @@ pub mod Rotated
 pub mod RunLengths
 pub mod RotateSteps
 pub mod Ruled
+pub mod SameJobs
 pub mod Stepped
 pub mod TakenFiles
 pub mod Untold

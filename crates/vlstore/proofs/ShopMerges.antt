@@ -72,7 +72,7 @@ module _ {H R W : Type 0} (sure : Type 0) (surely : sure) (writers : Writers W) 
     | inl reads ↦ elim reads.cause [
       | inl memory ↦ memory.is
       | inr rest ↦ elim rest [
-        | inl sources ↦ looked fault (sources.had made.looks) (steady reads.before.looks.reader) (steady reads.after.looks.reader)
+        | inl sources ↦ looked fault (sources.had made.due.looks) (steady reads.before.looks.reader) (steady reads.after.looks.reader)
             sources.counted
         | inr files ↦ taken fault files.had (steady reads.before.files) (steady reads.after.files) files.counted
       ]
@@ -89,7 +89,7 @@ module _ {H R W : Type 0} (sure : Type 0) (surely : sure) (writers : Writers W) 
       looked read.NoMemory may was is counted = refl
       looked (read.Disk name) may {before} {now} was is counted = absurd (none_risen before now was is counted)
       looked (read.Damaged name place) may was is counted =
-          let has = made.has.is.base in
+          let has = made.due.has.is.base in
           absurd (none_bad bytes (tables_in made.job.base.version) has.tabled has.tables name place may)
 
       taken : (f : ReadFault) → MayStopIn bytes made.key made.job.inputs.tables.items f → {before now : ℕ} → before ≡ 0 → now ≡ 0
@@ -97,7 +97,7 @@ module _ {H R W : Type 0} (sure : Type 0) (surely : sure) (writers : Writers W) 
       taken read.NoMemory may was is counted = refl
       taken (read.Disk name) may {before} {now} was is counted = absurd (none_risen before now was is counted)
       taken (read.Damaged name place) (i, t, there, named, stops) was is counted =
-          let has = made.has.is in
+          let has = made.due.has.is in
           absurd (none_bad bytes made.job.inputs.tables.items (map (λ (l : laid.Table). l.entries) has.tables)
           (are_of bytes made.job.inputs.tables.items has.tables has.inputs) name place (i, t, there, named, stops.bad))
 

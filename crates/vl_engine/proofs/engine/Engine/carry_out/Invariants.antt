@@ -1,4 +1,5 @@
 use Rattle.std.specs.Prelude.{◌≡◌, Some}
+use Rattle.vl_compact.specs.Progress.{HasRead}
 use Rattle.vl_engine.proofs.Whole.{IsMaking}
 use Rattle.vl_steps.specs.Merging.{FitsReaders, HasMerge}
 use Rattle.vl_engine_laws.specs.Lent.{StandsOpen}
@@ -44,4 +45,5 @@ invariant-making g l = record {
   inputs : l.job.inputs ≡ l.fn.job.inputs;
   looks : FitsReaders g.D.Held.HeldFile.bytes l.fn.job
       → bases.Fits g.D.Held.HeldFile.bytes l.fn.job.base.version l.reader.looks;
+  read : HasRead g.D.Held.HeldFile.bytes l.fn.job → HasRead g.D.Held.HeldFile.bytes l.job;
 }
