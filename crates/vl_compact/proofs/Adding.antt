@@ -11,12 +11,12 @@ use Rattle.std.specs.declared.cmp.Ordering.{Ordering}
 use Rattle.std.specs.declared.cmp.Ordering.TheVariants.{Less, Equal, Greater}
 use Rattle.vl_model.specs.Cutting.{last_key}
 use Rattle.vl_compact.specs.Filling.{Adds, Fills, IsWhole, IsWrittenTo, named_up_to}
+use Rattle.vl_compact.specs.FirstTable.{closes, first_table, frames_length, table_and_rest}
 use Rattle.vl_compact.specs.Keeps.{GivesNext, Stage, place_in, stage}
-use Rattle.vl_compact.specs.Keys.{all_named, named_of, up_to}
+use Rattle.vl_compact.specs.Keys.{all_named, is_past, named_of, up_to}
 use Rattle.vl_compact.specs.Walking.{is_behind, spent, walk}
-use Rattle.vl_compact.specs.laws.BehindLaws.{all_spent, behind_later}
-use Rattle.vl_compact.specs.laws.FirstTable.{closes, first_table, frames_length, last-append, table_and_rest}
-use Rattle.vl_compact.specs.laws.ProgressLaws.{is_past}
+use Rattle.vl_compact.specs.laws.BehindLaws.{all_spent, behind_later, not_greater}
+use Rattle.vl_compact.specs.laws.FirstTableLaws.{last-append}
 use Rattle.vl_compact.specs.declared.files.Lent.{Lent}
 use Rattle.vl_compact.specs.declared.fill.Filled.{Filled}
 use Rattle.vl_compact.specs.declared.last.Last.{Last}
@@ -86,13 +86,13 @@ module _ {W : Type 0} (writer : Ghosts W) where
     pub left_is : left ≡ Some rest
     pub cut : table_and_rest (first ∷ []) (walk j old.place old.left) ≡ table_and_rest all (walk j (place_in at) rest)
     pub found_are : old.found ++ all_named (spent j old.place old.left) ≡ found ++ all_named (spent j (place_in at) rest)
-    pub along : IsAlong Up (first ∷ old.left) → IsAlong Up (lastly ∷ rest)
+    pub along : IsAlong Up (lastly ∷ rest)
 
   pub adding_begins : {g : _} (j : Job) (first : Entry) (at : Option Last) (left : List Entry)
       (now : Option (List Entry)) (found : List Named)
-      (lent : Lent W g) (table : TableWriter) → now ≡ Some left → IsWrittenTo writer lent table (first ∷ [])
-      → Adding j first (stage at left found) lent table first.key at now found
-  adding_begins j first at left now found lent table is written = record {
+      (lent : Lent W g) (table : TableWriter) → now ≡ Some left → IsAlong Up (first ∷ left)
+      → IsWrittenTo writer lent table (first ∷ []) → Adding j first (stage at left found) lent table first.key at now found
+  adding_begins j first at left now found lent table is along written = record {
     all = first ∷ [];
     lastly = first;
     rest = left;
@@ -102,7 +102,7 @@ module _ {W : Type 0} (writer : Ghosts W) where
     left_is = is;
     cut = refl;
     found_are = refl;
-    along = λ along. along;
+    along = along;
   }
 
   module _ {g : _} (j : Job) (first : Entry) (old : Stage) (lent : Lent W g) (table : TableWriter) (last : List ℕ) (at : Option Last)
@@ -115,6 +115,11 @@ module _ {W : Type 0} (writer : Ghosts W) where
       cut_here : table_and_rest (first ∷ []) (walk j old.place old.left)
           ≡ cond (closes so.all e) (so.all, e ∷ kept_then) (table_and_rest (so.all ++ e ∷ []) kept_then)
       cut_here = so.cut ∙ ap (table_and_rest so.all) n.goes.kept
+
+      -- it is of no lesser key than the last one
+      pub is_up : is_gt (key_cmp last e.key) ≡ false
+      is_up = ap (λ k. is_gt (key_cmp k e.key)) so.last_is
+          ∙ not_greater (key_cmp so.lastly.key e.key) (nat_cmp e.version so.lastly.version) (n.goes.from so.lastly so.along.0).0
 
       -- one more is added
       pub adding_goes : (lent_now : Lent W g) (table_now : TableWriter) → closes so.all e ≡ false
@@ -129,14 +134,14 @@ module _ {W : Type 0} (writer : Ghosts W) where
         left_is = n.left_is;
         cut = cut_here ∙ ap (λ b. cond b (so.all, e ∷ kept_then) (table_and_rest (so.all ++ e ∷ []) kept_then)) going;
         found_are = so.found_are ∙ n.goes.found_are;
-        along = λ along. n.goes.along (so.along along).1;
+        along = n.goes.along so.along.1;
       }
 
-      past_it : IsAlong Up (first ∷ old.left) → closes so.all e ≡ true → is_behind (Some (last_key so.all)) e ≡ true
-      past_it along closed =
+      past_it : closes so.all e ≡ true → is_behind (Some (last_key so.all)) e ≡ true
+      past_it closed =
           apart_past (last_key so.all) so.lastly e so.ends
           (and_parts (not (eq_by_cmp key_cmp (last_key so.all) e.key)) (nat_le full_table_bytes (frames_length so.all)) closed).0
-          (n.goes.from so.lastly (so.along along).0).0
+          (n.goes.from so.lastly so.along.0).0
 
       -- it closes the table
       pub adding_closes : closes so.all e ≡ true → Adds writer j first old found_now lent table
@@ -147,10 +152,10 @@ module _ {W : Type 0} (writer : Ghosts W) where
         written = so.written;
         cut = cut_here ∙ ap (λ b. cond b (so.all, e ∷ kept_then) (table_and_rest (so.all ++ e ∷ []) kept_then)) closed;
         found_are = so.found_are ∙ n.goes.found_are;
-        behind = λ along.
+        behind =
             all_past (last_key so.all) (spent j (place_in at_now) n.rest)
             (all_spent (λ (f : Entry). is_behind (Some (last_key so.all)) f ≡ true) j (place_in at_now) n.rest
-            (all_later (Some (last_key so.all)) e n.rest (n.goes.along (so.along along).1).0 (past_it along closed)));
+            (all_later (Some (last_key so.all)) e n.rest (n.goes.along so.along.1).0 (past_it closed)));
       }
 
     -- none is left
@@ -162,36 +167,33 @@ module _ {W : Type 0} (writer : Ghosts W) where
       written = so.written;
       cut = so.cut ∙ ap (table_and_rest so.all) (n.goes.kept ∙ ap (walk j (place_in at_now)) n.none);
       found_are = so.found_are ∙ n.goes.found_are ∙ ap (λ es. found_now ++ all_named (spent j (place_in at_now) es)) n.none;
-      behind = λ along. tt;
+      behind = tt;
     }
 
   -- ---- the first table
 
-  pub filled_with : {g : _} (j : Job) (left : List Entry) (before at : Option Last) (left_now : Option (List Entry))
-      (none found found_now : List Named) (e : Entry)
-      → before ≡ None → none ≡ [] → (n : GivesNext j (stage before left none) at left_now found (Some e))
+  pub filled_with : {g : _} (j : Job) (left : List Entry) (at : Option Last) (left_now : Option (List Entry))
+      (found found_now : List Named) (e : Entry) (n : GivesNext j (stage None left []) at left_now found (Some e))
       → (lent : Lent W g) (table : TableWriter)
-      → (a : Adds writer j e (stage at n.rest found) found_now lent table) → IsAlong Up left → (lent_now : Lent W g) (filled : Filled)
+      → (a : Adds writer j e (stage at n.rest found) found_now lent table) → (lent_now : Lent W g) (filled : Filled)
       → IsWhole writer lent_now a.all (arc_value filled.shape) → filled.last ≡ last_key a.all
       → filled.found.items ≡ named_up_to filled.last found_now → Fills writer j left lent_now filled
-  filled_with j left before at left_now none found found_now e first nothing n lent table a along lent_now filled whole last found_are =
+  filled_with j left at left_now found found_now e n lent table a lent_now filled whole last found_are =
       let more : List Entry = walk j (place_in at) n.rest in
       let is_all : (first_table (e ∷ more)).0 ≡ a.all = ap (λ (p : List Entry × List Entry). p.0) a.cut in
       let needless : List Entry = spent j None left in
-      let total : all_named needless ≡ found_now ++ a.later =
-      ap (λ l. l ++ all_named needless) (sym nothing)
-      ∙ ap (λ (o : Option Last). none ++ all_named (spent j (place_in o) left)) (sym first) ∙ n.goes.found_are ∙ a.found_are in
+      let total : all_named needless ≡ found_now ++ a.later = n.goes.found_are ∙ a.found_are in
       record {
         first = e;
         more = more;
-        kept = ap (λ (o : Option Last). walk j (place_in o) left) (sym first) ∙ n.goes.kept;
+        kept = n.goes.kept;
         whole = subst (λ es. IsWhole writer lent_now es (arc_value filled.shape)) (sym is_all) whole;
         last = last ∙ ap last_key (sym is_all);
         found_are =
             found_are ∙ sym (append-nil (named_up_to filled.last found_now))
             ∙ ap (λ l. named_up_to filled.last found_now ++ l)
             (sym (none_up_to filled.last a.later
-            (subst (λ k. AllByRecursion (λ (n : Named). is_past (Some k) n.0 ≡ true) a.later) (sym last) (a.behind (n.goes.along along)))))
+            (subst (λ k. AllByRecursion (λ (n : Named). is_past (Some k) n.0 ≡ true) a.later) (sym last) a.behind)))
             ∙ sym (filter-append (λ (n : Named). not (is_past (Some filled.last) n.0)) found_now a.later)
             ∙ ap (named_up_to filled.last) (sym total) ∙ named_filtered filled.last needless;
       }

@@ -7,7 +7,7 @@ use Rattle.std.specs.Ordering.{eq_by_cmp}
 use Rattle.std.specs.Prelude.{All, Contains, IfSome, map, slice_index_or, ◌↔◌}
 use Rattle.vl_compact.proofs.Lists.{find_here, find_later}
 use Rattle.vl_compact.specs.Racing.{IsMoved, IsUnmoved, least_moved}
-use Rattle.vl_compact.specs.laws.RaceLaws.{moved_or}
+use Rattle.vl_compact.specs.Racing.{moved_or}
 use Rattle.vl_model.specs.Conflicts.{Named}
 use Rattle.vl_model.specs.Keys.{key_cmp}
 use Rattle.vl_model.specs.laws.WinnerLaws.{same_key}

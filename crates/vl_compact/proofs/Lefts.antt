@@ -6,11 +6,11 @@ use Rattle.std.specs.List.{AllByRecursion, AllZip, filter, flat_map, slice_get}
 use Rattle.std.specs.Ordering.{is_gt}
 use Rattle.std.proofs.lemmas.List.Elements.{filter-append}
 use Rattle.vl_model.specs.Cutting.{joined}
-use Rattle.vl_compact.specs.Keys.{behind}
+use Rattle.vl_compact.specs.Keys.{behind, span_behind}
 use Rattle.vl_compact.specs.Laid.{AreTablesOf, IsTableOf}
 use Rattle.vl_compact.specs.Lefts.{HasBehind}
 use Rattle.vl_compact.specs.Walking.{is_behind}
-use Rattle.vl_compact.specs.laws.BehindLaws.{span_behind, within-behind}
+use Rattle.vl_compact.specs.laws.BehindLaws.{within-behind}
 use Rattle.vl_compact.specs.laws.Chosen.{all-filter}
 use Rattle.vl_table.specs.declared.body.shape.TableShape.{TableShape}
 use Rattle.vl_disk.specs.declared.name.Name.{Name}

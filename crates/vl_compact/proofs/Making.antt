@@ -1,12 +1,12 @@
 -- What a job has once it has made one table more, and once nothing is left.
-use Rattle.std.proofs.Common.{◌≡◌, ℕ, zero, suc, ◌+◌, ◌≤◌, Bool, true, false, List, [], ◌∷◌, ◌++◌, length, take, drop}
+use Rattle.std.proofs.Common.{◌≡◌, ℕ, zero, suc, ◌+◌, ◌<◌, ◌≤◌, Bool, true, false, List, [], ◌∷◌, ◌++◌, length, take, drop}
 use Rattle.std.proofs.Common.{refl, ap, sym, subst, ◌∙◌, arith, append-nil, length-append, Option, Some, None}
 use Rattle.std.proofs.lemmas.List.{length-map}
 use Rattle.std.proofs.lemmas.List.Sums.{sum_by-cons}
 use Rattle.std.specs.Arc.{arc_value}
 use Rattle.std.specs.List.{AllZip, flat_map}
-use Rattle.std.specs.Option.{ForSome, IfNone, is_some}
-use Rattle.std.specs.Prelude.{map, Vec}
+use Rattle.std.specs.Option.{ForSome}
+use Rattle.std.specs.Prelude.{map, unwrap_or, Vec}
 use Rattle.std.specs.Global.{Global}
 use Rattle.vl_table.specs.body.Bytes.{table_bytes}
 use Rattle.vl_model.specs.Cutting.{joined}
@@ -15,26 +15,29 @@ use Rattle.vl_table.specs.body.Shapes.{IsShapeOf}
 use Rattle.vl_table.specs.declared.body.shape.TableShape.{TableShape}
 use Rattle.vl_compact.proofs.Zips.{zip_length, zip_push}
 use Rattle.vl_compact.specs.Filling.{Fills, IsWhole}
-use Rattle.vl_compact.specs.Keeps.{AreRulesOf, GivesNext, place_in, stage, with_entry}
-use Rattle.vl_compact.specs.Keys.{all_named, behind, named_of, up_to}
-use Rattle.vl_compact.specs.Progress.{Answers, Has, HasAll, HasTaken, IsFresh, IsJobOf, IsSettled, IsTableFile, done_by, made_of}
+use Rattle.vl_compact.specs.FirstTable.{first_table}
+use Rattle.vl_compact.specs.Keeps.{AreRulesOf, GivesNext, place_in, stage}
+use Rattle.vl_compact.specs.Keys.{all_named, behind, is_past, named_of, up_to}
+use Rattle.vl_compact.specs.Next.{IsFirstOf}
+use Rattle.vl_compact.specs.Progress.{Answers, Has, HasAll, HasTaken, IsFresh, IsJobOf, IsSettled, IsTableFile, done_by, left_behind}
+use Rattle.vl_compact.specs.Progress.{made_of}
 use Rattle.vl_compact.specs.Racing.{entry_count}
 use Rattle.vl_compact.specs.Walking.{spent, walk}
 use Rattle.vl_compact.specs.laws.BehindLaws.{merged_entries-behind, needless-behind}
-use Rattle.vl_compact.specs.laws.FirstTable.{first_table}
-use Rattle.vl_compact.specs.laws.ProgressLaws.{all_there, is_past, last_past, merged_entries-in_order, next_output}
+use Rattle.vl_compact.specs.laws.ProgressLaws.{all_there, last_past, merged_entries-in_order, next_output}
 use Rattle.vl_compact.specs.laws.ProgressLaws.{one_missing, others_first, parted-rising, up_to-further}
 use Rattle.vl_compact.specs.declared.files.Lent.{Lent}
 use Rattle.vl_compact.specs.declared.files.Synced.{Synced}
 use Rattle.vl_compact.specs.declared.fill.Filled.{Filled}
 use Rattle.vl_compact.specs.declared.job.Job.{Job}
 use Rattle.vl_compact.specs.declared.last.Last.{Last}
+use Rattle.vl_compact.specs.declared.next.Next.{Next}
 use Rattle.vl_compact.specs.declared.rules.Rules.{Rules}
 use Rattle.vl_compact.specs.Laid.{AreTablesOf}
 use Rattle.vl_disk.specs.DiskState.{File, settled}
 use Rattle.vl_disk.specs.declared.writer.Writer.{Ghosts}
 use Rattle.vl_engine_model.specs.Jobs.{AreOutputs}
-use Rattle.vl_engine_model.specs.Merging.{inputs_of, merged_entries, needless, outputs}
+use Rattle.vl_engine_model.specs.Merging.{merged_entries, needless, outputs}
 use Rattle.vl_engine_model.specs.Sources.{numbers_of, table_entries}
 use Rattle.vl_engine_model.specs.Tables.{cut_into_tables}
 use Rattle.vl_engine_model.specs.declared.table.Table as laid
@@ -87,9 +90,8 @@ none_up_to (e ∷ es) = none_up_to es
 module _ {V H W : Type 0} (writer : Ghosts W) (bytes : H → Option (List ℕ)) (has : V → List ℕ → List Marked → Type 0) where
   -- at first it has nothing, and all is behind
   pub begun : {g : _} (job : Job V H W g) (j : laid_job.Job) → IsJobOf writer bytes has job j → job.made.items ≡ []
-      → job.needless.items ≡ []
-      → job.after ≡ None → job.waits ≡ false → job.ended ≡ false → Has writer bytes has job j
-  begun job j is made none after waits ended = record {
+      → job.needless.items ≡ [] → job.after ≡ None → job.ended ≡ false → Has writer bytes has job j
+  begun job j is made none after ended = record {
     is = is;
     made = subst (λ l. AllZip (IsTableFile writer) l (take (length l) (outputs j))) (sym made) tt;
     others = ap (λ l. drop (length l) (outputs j)) made ∙ others_first (merged_entries j)
@@ -98,24 +100,17 @@ module _ {V H W : Type 0} (writer : Ghosts W) (bytes : H → Option (List ℕ)) 
         none ∙ ap all_named (sym (none_up_to (in_order (needless j))))
         ∙ ap (λ (o : Option (List ℕ)). all_named (up_to o (in_order (needless j)))) (sym after)
         ∙ ap (λ b. all_named (done_by b job.after (in_order (needless j)))) (sym ended);
-    waits = λ is. absurd (let no_such : true ≡ false = sym is ∙ waits in cc);
     ended = λ is. absurd (let no_such : true ≡ false = sym is ∙ ended in cc);
   }
 
-  -- where it waits it hasn't ended
-  pub not_ended : {g : _} (job : Job V H W g) (j : laid_job.Job) → Has writer bytes has job j → job.waits ≡ true → job.ended ≡ false
-  not_ended job j h waits = by job.ended refl
+  -- where a table is missing it hasn't ended
+  not_ended : {g : _} (job : Job V H W g) (j : laid_job.Job) → Has writer bytes has job j → length job.made.items < length (outputs j)
+      → job.ended ≡ false
+  not_ended job j h short = by job.ended refl
     where
       by : (b : Bool) → job.ended ≡ b → job.ended ≡ false
-      by true is = let short = h.waits waits in let all = h.ended is in absurd (omega (arith, short, all))
+      by true is = let all = h.ended is in absurd (omega (arith, short, all))
       by false is = is
-
-  pub not_waiting : {g : _} (job : Job V H W g) (j : laid_job.Job) → Has writer bytes has job j → job.ended ≡ true → false ≡ job.waits
-  not_waiting job j h ended = by job.waits refl
-    where
-      by : (b : Bool) → job.waits ≡ b → false ≡ job.waits
-      by true is = let short = h.waits is in let all = h.ended ended in absurd (omega (arith, short, all))
-      by false is = sym is
 
   -- it has all of its merge at the end
   pub has_all : {g : _} (job : Job V H W g) (j : laid_job.Job) → Has writer bytes has job j → job.ended ≡ true
@@ -135,11 +130,8 @@ module _ {V H W : Type 0} (writer : Ghosts W) (bytes : H → Option (List ℕ)) 
     enough = length-map job.made.items (λ (t : Synced W g). t.number) ∙ zip_length (IsTableFile writer) job.made.items (outputs j) h.made;
   }
 
-  abbrev left_of : (job_after : Option (List ℕ)) → laid_job.Job → List Entry
-  left_of after j = merged Up (behind after (inputs_of j.base))
-
   -- what it keeps behind its key
-  kept_is : (j : laid_job.Job) (after : Option (List ℕ)) (es : List Entry) → 1 ≤ j.keep → walk j None (left_of after j) ≡ es
+  kept_is : (j : laid_job.Job) (after : Option (List ℕ)) (es : List Entry) → 1 ≤ j.keep → walk j None (left_behind j after) ≡ es
       → behind after (merged_entries j) ≡ es
   kept_is j after es some is = sym (merged_entries-behind j after some) ∙ is
 
@@ -164,86 +156,68 @@ module _ {V H W : Type 0} (writer : Ghosts W) (bytes : H → Option (List ℕ)) 
 
   pub left_told : {g : _} (job : Job V H W g) (j : laid_job.Job) → IsJobOf writer bytes has job j → (left : Option (List Entry))
       → ((ts : List laid.Table) → AreTablesOf bytes job.inputs.tables.items ts
-      → left ≡ Some (merged Up (behind job.after (flat_map table_entries ts)))) → left ≡ Some (left_of job.after j)
+      → left ≡ Some (merged Up (behind job.after (flat_map table_entries ts)))) → left ≡ Some (left_behind j job.after)
   left_told job j is left told =
       told is.tables is.inputs ∙ ap (λ es. Some (merged Up (behind job.after es))) (sym is.entries)
 
   -- ---- ready
 
-  pub waits_for : {g : _} (job : Job V H W g) (j : laid_job.Job) → Has writer bytes has job j → (e : Entry) (more : List Entry)
-      → walk j None (left_of job.after j) ≡ e ∷ more → Answers writer bytes has (record job { waits = true }) j true
-  waits_for job j h e more kept = record {
-    state = record {
-      is = record {
-        tables = h.is.tables;
-        inputs = h.is.inputs;
-        numbers = h.is.numbers;
-        base = h.is.base;
-        entries = h.is.entries;
-        target = h.is.target;
-        floor = h.is.floor;
-        keep = h.is.keep;
-        some = h.is.some;
-      };
-      made = h.made;
-      others = h.others;
-      needless_are = h.needless_are;
-      waits = λ is. one_missing (length job.made.items) (merged_entries j) job.after e more h.others
-          (kept_is j job.after (e ∷ more) h.is.some kept);
-      ended = h.ended;
-    };
-    waits = refl;
-    all = λ not. absurd (let no_such : true ≡ false = not in cc);
+  -- a table is missing where one is kept
+  missing : {g : _} (job : Job V H W g) (j : laid_job.Job) → Has writer bytes has job j → (e : Entry) (more : List Entry)
+      → walk j None (left_behind j job.after) ≡ e ∷ more → length job.made.items < length (outputs j)
+  missing job j h e more kept =
+      one_missing (length job.made.items) (merged_entries j) job.after e more h.others
+      (kept_is j job.after (e ∷ more) h.is.some kept)
+
+  -- one is kept
+  pub ready_more : {g : _} {C : Type 0} (left : C → Option (List Entry)) (job : Job V H W g) (j : laid_job.Job)
+      → Has writer bytes has job j → (next : Next C) → IsFirstOf left j (left_behind j job.after) next
+      → Answers writer bytes has left job j (Some next)
+  ready_more {C = C} left job j h next first = record {
+    state = h;
+    all = tt;
+    first = λ n is. subst (IsFirstOf left j (left_behind j job.after)) (ap (λ (o : Option (Next C)). unwrap_or o next) is) first;
+    missing = λ n is. missing job j h next.first (walk j (place_in next.keeping.last) first.gives.rest) first.gives.goes.kept;
   }
 
-  -- where it has ended nothing is left
-  pub ended_already : {g : _} (job : Job V H W g) (j : laid_job.Job) → Has writer bytes has job j → job.ended ≡ true
-      → Answers writer bytes has (record job { waits = false }) j false
-  ended_already {g} job j h ended =
-      let state : Has writer bytes has (record job { waits = false }) j = record {
-        is = record {
-          tables = h.is.tables;
-          inputs = h.is.inputs;
-          numbers = h.is.numbers;
-          base = h.is.base;
-          entries = h.is.entries;
-          target = h.is.target;
-          floor = h.is.floor;
-          keep = h.is.keep;
-          some = h.is.some;
-        };
-        made = h.made;
-        others = h.others;
-        needless_are = h.needless_are;
-        waits = λ no. absurd (let no_such : false ≡ true = no in cc);
-        ended = h.ended;
-      } in
-      record {
-        state = state;
-        waits = refl;
-        all = λ _. has_all (record job { waits = false }) j state ended;
-      }
+  -- none is
+  module _ {g : _} {C : Type 0} (left : C → Option (List Entry)) (job : Job V H W g) (j : laid_job.Job) where
+    none_left : Has writer bytes has job j → HasAll writer bytes has job j → Answers writer bytes has left job j None
+    none_left h all = record {
+      state = h;
+      all = all;
+      first = λ n is. absurd (let no_such : None ≡ Some n = is in cc);
+      missing = λ n is. absurd (let no_such : None ≡ Some n = is in cc);
+    }
 
-  pub ends_with : {g : _} (job : Job V H W g) (j : laid_job.Job) → Has writer bytes has job j → job.ended ≡ false
-      → walk j None (left_of job.after j) ≡ [] → (deletions : Vec Named Global)
-      → deletions.items ≡ job.needless.items ++ all_named (spent j None (left_of job.after j))
-      → Answers writer bytes has (record job { needless = deletions; waits = false; ended = true }) j false
-  ends_with job j h going none deletions are =
+    -- also where it has ended
+    pub ended_already : Has writer bytes has job j → job.ended ≡ true → Answers writer bytes has left job j None
+    ended_already h ended = none_left h (has_all job j h ended)
+
+  pub ready_none : {g : _} {C : Type 0} (left : C → Option (List Entry)) (job : Job V H W g) (j : laid_job.Job) → Has writer bytes has job j
+      → (at : Option Last) (found : List Named) (now : Option (List Entry))
+      → GivesNext j (stage None (left_behind j job.after) []) at now found None → job.ended ≡ false
+      → (deletions : Vec Named Global) → deletions.items ≡ job.needless.items ++ found
+      → Answers writer bytes has left (record job { needless = deletions; ended = true }) j None
+  ready_none left job j h at found now n going deletions are =
       let es : List Entry = merged_entries j in
-      let n : ℕ = length job.made.items in
+      let count : ℕ = length job.made.items in
       let x : List Entry = in_order (needless j) in
-      let within : n ≤ length (outputs j) =
-      (let same = zip_length (IsTableFile writer) job.made.items (take n (outputs j)) h.made in
-      let short = short_take n (outputs j) in omega (arith, same, short)) in
-      let all : n ≡ length (outputs j) = all_there n es job.after within h.others (kept_is j job.after [] h.is.some none) in
-      let found : deletions.items ≡ all_named x =
-      are
-      ∙ ap (λ l. l ++ all_named (spent j None (left_of job.after j)))
+      let within : count ≤ length (outputs j) =
+      (let same = zip_length (IsTableFile writer) job.made.items (take count (outputs j)) h.made in
+      let short = short_take count (outputs j) in omega (arith, same, short)) in
+      let nothing : walk j None (left_behind j job.after) ≡ [] = n.goes.kept ∙ ap (walk j (place_in at)) n.none in
+      let all : count ≡ length (outputs j) = all_there count es job.after within h.others (kept_is j job.after [] h.is.some nothing) in
+      let passed : found ≡ all_named (spent j None (left_behind j job.after)) =
+      sym (n.goes.found_are ∙ ap (λ (fs : List Entry). found ++ all_named (spent j (place_in at) fs)) n.none ∙ append-nil found) in
+      let found_all : deletions.items ≡ all_named x =
+      are ∙ ap (λ l. job.needless.items ++ l) passed
+      ∙ ap (λ l. l ++ all_named (spent j None (left_behind j job.after)))
       (h.needless_are ∙ ap (λ b. all_named (done_by b job.after x)) going)
       ∙ ap (λ l. all_named (up_to job.after x) ++ all_named l) (needless-behind j job.after h.is.some)
       ∙ sym (named_both (up_to job.after x) (behind job.after x))
       ∙ ap all_named (parted-rising job.after x (rising-in_order (needless j))) in
-      let is : IsJobOf writer bytes has (record job { needless = deletions; waits = false; ended = true }) j =
+      let is : IsJobOf writer bytes has (record job { needless = deletions; ended = true }) j =
       record {
         tables = h.is.tables;
         inputs = h.is.inputs;
@@ -255,59 +229,13 @@ module _ {V H W : Type 0} (writer : Ghosts W) (bytes : H → Option (List ℕ)) 
         keep = h.is.keep;
         some = h.is.some;
       } in
-      record {
-        state = record {
-          is = is;
-          made = h.made;
-          others = h.others;
-          needless_are = found;
-          waits = λ no. absurd (let no_such : false ≡ true = no in cc);
-          ended = λ _. all;
-        };
-        waits = refl;
-        all = λ _. record {
-          is = is;
-          made = subst (AllZip (IsTableFile writer) job.made.items) (ap (λ m. take m (outputs j)) all ∙ take_all (outputs j)) h.made;
-          needless_are = found;
-        };
-      }
-
-  module _ {g : _} (job : Job V H W g) (j : laid_job.Job) (h : Has writer bytes has job j) (last at : Option Last)
-      (found_first found : List Named) (now : Option (List Entry)) (next : Option Entry)
-      (n : GivesNext j (stage last (left_of job.after j) found_first) at now found next) (first : last ≡ None) where
-    left_is : walk j None (left_of job.after j) ≡ with_entry next (walk j (place_in at) n.rest)
-    left_is = ap (λ (o : Option Last). walk j (place_in o) (left_of job.after j)) (sym first) ∙ n.goes.kept
-
-    -- one is kept
-    pub ready_more : is_some next ≡ true → Answers writer bytes has (record job { waits = true }) j true
-    ready_more some = by next refl
-      where
-        by : (o : Option Entry) → next ≡ o → Answers writer bytes has (record job { waits = true }) j true
-        by None is = absurd (let no_such : true ≡ false = sym some ∙ ap is_some is in cc)
-        by (Some e) is = waits_for job j h e (walk j (place_in at) n.rest)
-            (left_is ∙ ap (λ o. with_entry o (walk j (place_in at) n.rest)) is)
-
-    -- none is
-    pub ready_none : is_some next ≡ false → job.ended ≡ false → found_first ≡ [] → (deletions : Vec Named Global)
-        → deletions.items ≡ job.needless.items ++ found
-        → Answers writer bytes has (record job { needless = deletions; waits = false; ended = true }) j false
-    ready_none none going nothing deletions are = by next refl
-      where
-        needless_left : List Named
-        needless_left = all_named (spent j None (left_of job.after j))
-
-        by : (o : Option Entry) → next ≡ o
-            → Answers writer bytes has (record job { needless = deletions; waits = false; ended = true }) j false
-        by (Some e) is = absurd (let no_such : true ≡ false = sym (ap is_some is) ∙ none in cc)
-        by None is =
-            let rest : n.rest ≡ [] = subst (λ (o : Option Entry). IfNone o (n.rest ≡ [])) is n.none in
-            let all : needless_left ≡ found =
-            ap (λ l. l ++ needless_left) (sym nothing)
-            ∙ ap (λ (o : Option Last). found_first ++ all_named (spent j (place_in o) (left_of job.after j))) (sym first)
-            ∙ n.goes.found_are ∙ ap (λ es. found ++ all_named (spent j (place_in at) es)) rest ∙ append-nil found in
-            ends_with job j h going
-            (left_is ∙ ap (λ o. with_entry o (walk j (place_in at) n.rest)) is ∙ ap (walk j (place_in at)) rest)
-            deletions (are ∙ ap (λ l. job.needless.items ++ l) (sym all))
+      none_left left (record job { needless = deletions; ended = true }) j
+      (record { is = is; made = h.made; others = h.others; needless_are = found_all; ended = λ _. all })
+      (record {
+        is = is;
+        made = subst (AllZip (IsTableFile writer) job.made.items) (ap (λ m. take m (outputs j)) all ∙ take_all (outputs j)) h.made;
+        needless_are = found_all;
+      })
 
   -- ---- one table more
 
@@ -353,17 +281,16 @@ module _ {V H W : Type 0} (writer : Ghosts W) (bytes : H → Option (List ℕ)) 
         settled_is f there ∙ ap settled (whole.file f there ∙ ap (λ n. table_bytes table_format n es) (sym number));
   }
 
-  pub makes_one : {g : _} (job : Job V H W g) (j : laid_job.Job) → Has writer bytes has job j → job.waits ≡ true
-      → (lent : Lent W g) (filled : Filled)
-      → Fills writer j (left_of job.after j) lent filled → IsSettled writer lent → (made : Vec (Synced W g) Global)
+  pub makes_one : {g : _} (job : Job V H W g) (j : laid_job.Job) → Has writer bytes has job j → (lent : Lent W g) (filled : Filled)
+      → Fills writer j (left_behind j job.after) lent filled → IsSettled writer lent → (made : Vec (Synced W g) Global)
       → HasTaken lent filled job.made.items made.items
       → (deletions : Vec Named Global) → deletions.items ≡ job.needless.items ++ filled.found.items
-      → Has writer bytes has (record job { after = Some filled.last; made = made; needless = deletions; waits = false }) j
-  makes_one job j h waits lent filled fills settled_is made taken deletions are =
+      → Has writer bytes has (record job { after = Some filled.last; made = made; needless = deletions }) j
+  makes_one job j h lent filled fills settled_is made taken deletions are =
       let es : List Entry = merged_entries j in
       let n : ℕ = length job.made.items in
       let x : List Entry = in_order (needless j) in
-      let going : job.ended ≡ false = not_ended job j h waits in
+      let going : job.ended ≡ false = not_ended job j h (missing job j h fills.first fills.more fills.kept) in
       let left : behind job.after es ≡ fills.first ∷ fills.more = kept_is j job.after (fills.first ∷ fills.more) h.is.some fills.kept in
       let table : List Entry = (first_table (fills.first ∷ fills.more)).0 in
       let next = next_output es job.after fills.first fills.more left n (merged_entries-in_order j) h.others in
@@ -397,7 +324,6 @@ module _ {V H W : Type 0} (writer : Ghosts W) (bytes : H → Option (List ℕ)) 
             ∙ sym (named_both (up_to job.after x) (up_to (Some filled.last) (behind job.after x)))
             ∙ ap all_named (sym (up_to-further job.after filled.last x (rising-in_order (needless j)) past))
             ∙ ap (λ b. all_named (done_by b (Some filled.last) x)) (sym going);
-        waits = λ no. absurd (let no_such : false ≡ true = no in cc);
         ended = λ ended. absurd (let no_such : true ≡ false = sym ended ∙ going in cc);
       }
 

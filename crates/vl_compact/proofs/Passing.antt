@@ -147,3 +147,12 @@ module _ (j : Job) (old : Stage) (last : Option Last) (left : Option (List Entry
         };
         none = refl;
       }
+
+-- what was given from the beginning on, where nothing came yet and nothing was found
+pub begins : (j : Job) (last at : Option Last) (left : List Entry) (none found : List Named) (now : Option (List Entry))
+    (next given : Option Entry) → last ≡ None → none ≡ [] → given ≡ next → GivesNext j (stage last left none) at now found given
+    → GivesNext j (stage None left []) at now found next
+begins j last at left none found now next given first nothing is n =
+    subst (λ (o : Option Entry). GivesNext j (stage None left []) at now found o) is
+    (subst (λ (ns : List Named). GivesNext j (stage None left ns) at now found given) nothing
+    (subst (λ (o : Option Last). GivesNext j (stage o left none) at now found given) first n))

@@ -1,15 +1,18 @@
 -- What a file has once pieces of a table were put behind its end.
-use Rattle.std.proofs.Common.{◌≡◌, ℕ, Bool, false, not, ◌&&◌, List, [], ◌∷◌, ◌++◌, ap, sym, subst, ◌∙◌, append_assoc}
+use Rattle.std.proofs.Common.{◌≡◌, ℕ, Bool, true, false, not, ◌&&◌, List, [], ◌∷◌, ◌++◌, refl, ap, sym, subst, ◌∙◌, append_assoc, Some}
 use Rattle.std.specs.Option.{ForSome}
-use Rattle.std.specs.Ordering.{eq_by_cmp}
+use Rattle.std.specs.Ordering.{eq_by_cmp, is_eq, is_gt, is_lt}
 use Rattle.std.specs.Prelude.{nat_le}
+use Rattle.std.specs.declared.cmp.Ordering.{Ordering}
+use Rattle.std.specs.declared.cmp.Ordering.TheVariants.{Less, Equal, Greater}
 use Rattle.vl_table.specs.body.Bytes.{table_bytes}
 use Rattle.vl_model.specs.Cutting.{last_key}
 use Rattle.vl_table.specs.body.Footer.{Foot}
 use Rattle.vl_table.specs.body.Shapes.{IsShapeOf}
 use Rattle.vl_table.specs.declared.body.shape.TableShape.{TableShape}
 use Rattle.vl_compact.specs.Filling.{IsWhole, IsWrittenTo}
-use Rattle.vl_compact.specs.laws.FirstTable.{closes, frames_length}
+use Rattle.vl_compact.specs.FirstTable.{closes, frames_length}
+use Rattle.vl_compact.specs.Walking.{is_behind}
 use Rattle.vl_compact.specs.declared.files.Lent.{Lent}
 use Rattle.vl_disk.specs.declared.writer.Writer.{Ghosts}
 use Rattle.vl_engine_model.specs.Tables.{full_table_bytes}
@@ -33,13 +36,30 @@ five a a' b b' c c' d d' e is_a is_b is_c is_d =
     ap (λ l. l ++ (b ++ (c ++ (d ++ e)))) is_a ∙ ap (λ l. a' ++ (l ++ (c ++ (d ++ e)))) is_b
     ∙ ap (λ l. a' ++ (b' ++ (l ++ (d ++ e)))) is_c ∙ ap (λ l. a' ++ (b' ++ (c' ++ (l ++ e)))) is_d
 
--- whether a table is closed, where an entry is of another key
-pub closes_full : (es : List Entry) (e : Entry) (k : List ℕ) → k ≡ last_key es → (b : Bool) → b ≡ eq_by_cmp key_cmp k e.key → b ≡ false
+-- whether a table is closed, where an entry is of a greater key
+pub closes_full : (es : List Entry) (e : Entry) (k : List ℕ) → k ≡ last_key es → (b : Bool) → b ≡ is_behind (Some k) e → b ≡ true
     → (full : Bool) → full ≡ nat_le full_table_bytes (frames_length es) → full ≡ closes es e
-closes_full es e k last b is apart full full_is =
+closes_full es e k last b is behind full full_is =
     full_is
     ∙ ap (λ x. x && nat_le full_table_bytes (frames_length es))
-    (sym (ap (λ x. not (eq_by_cmp key_cmp x e.key)) (sym last) ∙ ap not (sym is ∙ apart)))
+    (sym (ap (λ x. not (eq_by_cmp key_cmp x e.key)) (sym last) ∙ apart (key_cmp k e.key) (sym is ∙ behind)))
+  where
+    apart : (r : Ordering) → is_lt r ≡ true → not (is_eq r) ≡ true
+    apart Less less = refl
+    apart Equal less = absurd cc
+    apart Greater less = absurd cc
+
+-- and it isn't where it is of the same one
+pub stays_open : (es : List Entry) (e : Entry) (k : List ℕ) → k ≡ last_key es → (b : Bool) → b ≡ is_behind (Some k) e → b ≡ false
+    → is_gt (key_cmp k e.key) ≡ false → false ≡ closes es e
+stays_open es e k last b is short up =
+    sym (ap (λ x. x && nat_le full_table_bytes (frames_length es))
+    (ap (λ x. not (eq_by_cmp key_cmp x e.key)) (sym last) ∙ same (key_cmp k e.key) (sym is ∙ short) up))
+  where
+    same : (r : Ordering) → is_lt r ≡ false → is_gt r ≡ false → not (is_eq r) ≡ false
+    same Less short up = absurd cc
+    same Equal short up = refl
+    same Greater short up = absurd cc
 
 module _ {W : Type 0} (writer : Ghosts W) where
   -- the header went out

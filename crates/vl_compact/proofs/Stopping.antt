@@ -1,16 +1,15 @@
 -- Where a cursor over an input stops, and where reading the input does.
-use Rattle.std.proofs.Common.{◌≡◌, ℕ, Bool, true, ◌&&◌, List, [], ◌∷◌, ◌++◌, Option, Some, None, false, is_some, get_or, refl, ap, sym, subst, ◌∙◌, ◌+◌, ◌<◌, length, take}
+use Rattle.std.proofs.Common.{◌≡◌, ℕ, Bool, true, ◌&&◌, List, [], ◌∷◌, ◌++◌, Option, Some, get_or, refl, ap, sym, subst, ◌∙◌, ◌+◌, ◌<◌, length, take}
 use Rattle.std.proofs.lemmas.Grind.{take_at_read}
 use Rattle.std.specs.Prelude.{map, unwrap_or}
 use Rattle.std.specs.List.{AllByRecursion, slice_get}
 use Rattle.std.specs.Option.{ForSome}
 use Rattle.vl_compact.proofs.Lefts.{fails_shared, only}
 use Rattle.vl_compact.specs.Stops.{IsFirstBadOf, MayStopIn}
-use Rattle.vl_compact.specs.laws.BehindLaws.{span_behind}
+use Rattle.vl_compact.specs.Keys.{span_behind}
 use Rattle.vl_disk.specs.declared.name.Name.{Name}
 use Rattle.vl_disk.specs.declared.read_fault.ReadFault.{ReadFault}
 use Rattle.vl_disk.specs.declared.read_fault.ReadFault.TheVariants.{NoMemory, Disk, Damaged}
-use Rattle.vl_model.specs.Cursors.{IsReached}
 use Rattle.vl_model.specs.declared.entry.Entry.{Entry}
 use Rattle.vl_model.specs.declared.way.Way.TheVariants.{Up}
 use Rattle.vl_table.specs.CursorParts.{AllStand, Block, IsFirstBad, StandsWith, index_of}
@@ -148,8 +147,3 @@ stand_next P Q cs now c ts i t inside is pushed before here all =
     subst (AllByRecursion Q)
     (sym ((take_at_read ts i t inside).1 ∙ ap (λ y. take i ts ++ y ∷ []) (sym is)))
     (all_more Q (take i ts) t (before parts.0) (here parts.1.0))
-
--- where nothing came, the end was reached
-pub reached_end : (is_met : Entry → Bool) (next : Option Entry) → is_some next ≡ false → IsReached is_met next
-reached_end is_met None none = tt
-reached_end is_met (Some e) none = absurd cc

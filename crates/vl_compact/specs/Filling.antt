@@ -1,5 +1,5 @@
 -- What becomes of a table that goes to its file piece by piece.
-use Rattle.std.specs.Prelude.{◌≡◌, ◌⊎◌, ℕ, true, List, [], ◌∷◌, ◌++◌, not, Some, None}
+use Rattle.std.specs.Prelude.{◌≡◌, ◌⊎◌, ℕ, Bool, true, List, [], ◌∷◌, ◌++◌, not, Some, None}
 use Rattle.std.specs.Arc.{arc_value}
 use Rattle.std.specs.List.{AllByRecursion, filter}
 use Rattle.std.specs.Option.{ForSome}
@@ -7,25 +7,36 @@ use Rattle.vl_table.specs.body.Bytes.{table_bytes}
 use Rattle.vl_model.specs.Cutting.{last_key}
 use Rattle.vl_table.specs.body.Shapes.{IsShapeOf}
 use Rattle.vl_table.specs.declared.body.shape.TableShape.{TableShape}
+use Rattle.vl_compact.specs.FirstTable.{first_table, table_and_rest}
 use Rattle.vl_compact.specs.Keeps.{Stage}
-use Rattle.vl_compact.specs.Keys.{all_named, up_to}
+use Rattle.vl_compact.specs.Keys.{all_named, is_past, up_to}
 use Rattle.vl_compact.specs.Lending.{FailsWriting, IsSteady}
 use Rattle.vl_compact.specs.Reading.{Counts, NoneRose}
-use Rattle.vl_compact.specs.Walking.{spent, walk}
-use Rattle.vl_compact.specs.laws.FirstTable.{first_table, table_and_rest}
-use Rattle.vl_compact.specs.laws.ProgressLaws.{is_past}
+use Rattle.vl_compact.specs.Walking.{is_behind, spent, walk}
 use Rattle.vl_compact.specs.declared.files.Lent.{Lent}
 use Rattle.vl_compact.specs.declared.fill.Filled.{Filled}
 use Rattle.vl_disk.specs.declared.writer.Writer.{Ghosts}
 use Rattle.vl_engine_model.specs.declared.job.Job.{Job}
-use Rattle.vl_model.specs.Merging.{IsAlong}
 use Rattle.vl_model.specs.Conflicts.{Named}
 use Rattle.vl_model.specs.Formats.{table_format}
 use Rattle.vl_model.specs.declared.entry.Entry.{Entry}
-use Rattle.vl_model.specs.declared.way.Way.TheVariants.{Up}
 use Rattle.vl_disk.specs.declared.read_fault.ReadFault.{ReadFault}
 use Rattle.vl_table.specs.writer.Writing.{IsWriting}
 use Rattle.vl_table.specs.declared.writer.table_writer.TableWriter.{TableWriter}
+
+-- A table is being written whose last key is this one,
+pub record EndsWith (table : TableWriter) (key : List ℕ) : Type 0 where
+  pub number : ℕ
+  pub entries : List Entry
+  pub given : List ℕ
+  pub writing : IsWriting table number entries given
+  pub last : last_key entries ≡ key
+
+-- and all was read up to that, which is said of each kind of entries.
+pub record HasReadFor (stands_to : (Entry → Bool) → Type 0) (table : TableWriter) : Type 0 where
+  pub key : List ℕ
+  pub ends : EndsWith table key
+  pub read : stands_to (is_behind (Some key))
 
 module _ {W : Type 0} (writer : Ghosts W) where
   -- a table is being written to the file: it has these entries, and the file has what was given out of it
@@ -50,7 +61,7 @@ module _ {W : Type 0} (writer : Ghosts W) where
     pub written : IsWrittenTo lent table all
     pub cut : table_and_rest (first ∷ []) (walk j old.place old.left) ≡ (all, others)
     pub found_are : old.found ++ all_named (spent j old.place old.left) ≡ found ++ later
-    pub behind : IsAlong Up (first ∷ old.left) → AllByRecursion (λ (n : Named). is_past (Some (last_key all)) n.0 ≡ true) later
+    pub behind : AllByRecursion (λ (n : Named). is_past (Some (last_key all)) n.0 ≡ true) later
 
   -- The first table of what is left was written, and the needless deletions up to its last key were found.
   pub record Fills {g : _} (j : Job) (left : List Entry) (lent : Lent W g) (filled : Filled) : Type 0 where

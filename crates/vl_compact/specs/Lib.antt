@@ -1,11 +1,13 @@
 pub mod Due
 pub mod Filling
+pub mod FirstTable
 pub mod Keeps
 pub mod Keys
 pub mod Laid
 pub mod Lefts
 pub mod Lending
 pub mod Merges
+pub mod Next
 pub mod Places
 pub mod Progress
 pub mod Racing

@@ -1,19 +1,22 @@
 -- How far a job has come with its merge. Nothing here hangs on the disk, but on what writers tell.
 use Rattle.std.specs.Prelude.{◌≡◌, ℕ, ◌≤◌, ◌<◌, Bool, false, true, List, [], ◌∷◌, ◌++◌, length, map, take, drop}
-use Rattle.std.specs.Prelude.{Option, None, vec_capacity, vec_len, IsSome}
+use Rattle.std.specs.Prelude.{Option, None, Some, vec_capacity, vec_len, IsSome}
 use Rattle.std.specs.Arc.{arc_value}
 use Rattle.std.specs.List.{AllZip, flat_map}
-use Rattle.std.specs.Option.{ForSome}
+use Rattle.std.specs.Option.{ForSome, IfNone}
 use Rattle.vl_table.specs.body.Bytes.{table_bytes}
 use Rattle.vl_table.specs.body.Shapes.{IsShapeOf}
 use Rattle.vl_compact.specs.Filling.{FailsFilling}
 use Rattle.vl_compact.specs.Keys.{all_named, behind, up_to}
 use Rattle.vl_compact.specs.Laid.{AreTablesOf}
+use Rattle.vl_compact.specs.Next.{IsFirstOf}
 use Rattle.vl_compact.specs.Reading.{Counts}
+use Rattle.vl_compact.specs.Stops.{InputsReadOn, InputsReadTo, MayStopIn}
 use Rattle.vl_compact.specs.declared.fill.Filled.{Filled}
 use Rattle.vl_compact.specs.declared.files.Lent.{Lent}
 use Rattle.vl_compact.specs.declared.files.Synced.{Synced}
 use Rattle.vl_compact.specs.declared.job.Job.{Job}
+use Rattle.vl_compact.specs.declared.next.Next.{Next}
 use Rattle.vl_disk.specs.DiskState.{new_file, settled}
 use Rattle.vl_disk.specs.declared.writer.Writer.{Ghosts}
 use Rattle.vl_engine_model.specs.Jobs.{Made, tables_made}
@@ -23,15 +26,22 @@ use Rattle.vl_engine_model.specs.Tables.{cut_into_tables}
 use Rattle.vl_engine_model.specs.declared.job.Job as laid_job
 use Rattle.vl_engine_model.specs.declared.table.Table as laid
 use Rattle.vl_merge.specs.Marked.{Marked}
+use Rattle.vl_merge.specs.Standing.{IsUpward}
+use Rattle.vl_model.specs.Merging.{merged}
 use Rattle.vl_model.specs.Entries.{in_order}
 use Rattle.vl_model.specs.Formats.{table_format}
 use Rattle.vl_model.specs.declared.entry.Entry.{Entry}
+use Rattle.vl_model.specs.declared.way.Way.TheVariants.{Up}
 use Rattle.vl_disk.specs.declared.read_fault.ReadFault.{ReadFault}
 
 -- which of some entries are done: those up to a key, or all at the end
 abbrev pub done_by : Bool → Option (List ℕ) → List Entry → List Entry
 done_by true after es = es
 done_by false after es = up_to after es
+
+-- what a merge's inputs have behind a key, as it comes
+abbrev pub left_behind : laid_job.Job → Option (List ℕ) → List Entry
+left_behind j after = merged Up (behind after (inputs_of j.base))
 
 module _ {W : Type 0} (writer : Ghosts W) where
   -- nothing was done with the file since it was made
@@ -69,9 +79,7 @@ module _ {W : Type 0} (writer : Ghosts W) where
       pub made : AllZip IsTableFile job.made.items (take (length job.made.items) (outputs j))
       pub others : drop (length job.made.items) (outputs j) ≡ cut_into_tables (behind job.after (merged_entries j))
       pub needless_are : job.needless.items ≡ all_named (done_by job.ended job.after (in_order (needless j)))
-      -- where it waits for a file, a table is missing
-      pub waits : job.waits ≡ true → length job.made.items < length (outputs j)
-      -- where it has ended, none is
+      -- where it has ended, none is missing
       pub ended : job.ended ≡ true → length job.made.items ≡ length (outputs j)
 
     -- The job has all of its merge.
@@ -80,11 +88,13 @@ module _ {W : Type 0} (writer : Ghosts W) where
       pub made : AllZip IsTableFile job.made.items (outputs j)
       pub needless_are : job.needless.items ≡ all_named (in_order (needless j))
 
-    -- Whether more is kept than its tables have: where nothing is, it has all of its merge.
-    pub record Answers {g : _} (job : Job V H W g) (j : laid_job.Job) (more : Bool) : Type 0 where
+    -- What is kept first of what its tables don't have: where nothing is, it has all of its merge, and else a table is missing.
+    pub record Answers {g : _} {C : Type 0} (left : C → Option (List Entry)) (job : Job V H W g) (j : laid_job.Job)
+        (next : Option (Next C)) : Type 0 where
       pub state : Has job j
-      pub waits : more ≡ job.waits
-      pub all : more ≡ false → HasAll job j
+      pub all : IfNone next (HasAll job j)
+      pub first : ForSome next (IsFirstOf left j (left_behind j job.after))
+      pub missing : ForSome next (λ _. length job.made.items < length (outputs j))
 
 -- ---- what a call leaves
 
@@ -103,8 +113,21 @@ module _ {V H W : Type 0} where
     pub made : job.made.items ≡ []
     pub leavings : job.leavings.items ≡ []
     pub needless_are : job.needless.items ≡ []
-    pub waits : job.waits ≡ false
     pub ended : job.ended ≡ false
+
+  -- Whatever is told: of its inputs all was read up to the last key of its tables, and to their end once it has ended.
+  pub record HasRead {g : _} (bytes : H → Option (List ℕ)) (job : Job V H W g) : Type 0 where
+    pub on : InputsReadOn bytes None job.after job.inputs.tables.items
+    pub rest : job.ended ≡ true → InputsReadTo bytes job.after (λ _. false) job.inputs.tables.items
+
+  -- Whatever is told: it was read of the job's inputs behind that key, where they stop is where its cursor may, and the job hasn't
+  -- ended.
+  pub record IsNextOf {g : _} {C : Type 0} (stands_to : C → (Entry → Bool) → Type 0) (may_fail : C → ReadFault → Type 0)
+      (bytes : H → Option (List ℕ)) (job : Job V H W g) (next : Next C) : Type 0 where
+    pub going : job.ended ≡ false
+    pub may_stop : (fault : ReadFault) → may_fail next.keeping.cursor fault → MayStopIn bytes job.after job.inputs.tables.items fault
+    pub stands : (is_met : Entry → Bool) → IsUpward Up is_met → stands_to next.keeping.cursor is_met
+        → InputsReadTo bytes job.after is_met job.inputs.tables.items
 
   -- room for one table more, and for one file that didn't become one
   pub record HasRoom {g : _} (job : Job V H W g) : Type 0 where
@@ -113,7 +136,7 @@ module _ {V H W : Type 0} where
 
   -- what it is, and its files, are as before
   abbrev pub KeepsAll : {g : _} → (old new : Job V H W g) → Type 0
-  KeepsAll old new = new ≡ record old { needless = new.needless; waits = new.waits; ended = new.ended }
+  KeepsAll old new = new ≡ record old { needless = new.needless; ended = new.ended }
 
 module _ {V H W : Type 0} (writer : Ghosts W) where
   -- All is as before but that this file, which didn't become a table, is the last of its leavings.
@@ -131,11 +154,12 @@ module _ {V H W : Type 0} (writer : Ghosts W) where
     pub table : Synced W g
     pub number : table.number ≡ fresh.number
     pub made : new.made.items ≡ old.made.items ++ table ∷ []
+    -- it goes on behind that table's last key
+    pub last : new.after ≡ Some (arc_value table.shape).footer.last
     pub leavings : new.leavings ≡ old.leavings
-    pub waits : new.waits ≡ false
     pub ended : new.ended ≡ old.ended
     -- what it merges, and its other files, are as before
-    pub kept : new ≡ record old { after = new.after; made = new.made; needless = new.needless; waits = new.waits }
+    pub kept : new ≡ record old { after = new.after; made = new.made; needless = new.needless }
     -- a writer that told its file tells it
     pub tells : IsSome (writer.file fresh.writer) → IsSome (writer.file table.writer)
     -- and each byte of it is durable

@@ -3,10 +3,14 @@ use Rattle.std.specs.Prelude.{◌≡◌, ℕ, max, List, [], ◌∷◌, map, Con
 use Rattle.std.specs.Arc.{arc_value}
 use Rattle.std.specs.FinMap.{find}
 use Rattle.std.specs.List.{sum_by}
-use Rattle.vl_compact.specs.laws.RaceLaws.{moved_or}
 use Rattle.vl_compact.specs.declared.files.Synced.{Synced}
 use Rattle.vl_model.specs.Conflicts.{Named}
 use Rattle.vl_model.specs.Keys.{key_cmp}
+
+-- the number of a key's move with the key, or what is so of other keys
+abbrev pub moved_or : List ℕ → Option ℕ → Option Named → Option Named
+moved_or key None other = other
+moved_or key (Some number) other = Some (key, number)
 
 -- the first of these keys that was moved, with the number of its last move, which comes first
 abbrev pub least_moved : List Named → List Named → Option Named

@@ -2,9 +2,11 @@
 pub mod BehindLaws
 pub mod Chosen
 pub mod Counted
-pub mod FirstTable
+pub mod FirstTableLaws
 pub mod ProgressLaws
 pub mod RaceLaws
+pub mod ReadLaws
 pub mod Repeats
 pub mod SureReaders
 pub mod WalkLaws
+pub mod WholeLaws

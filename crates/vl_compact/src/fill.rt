@@ -1,16 +1,18 @@
 //! How a table goes to its file, piece by piece.
 
-ghost use Rattle.std.specs.Prelude.{◌≡◌, ◌++◌, ◌∷◌, [], nat_le, ℕ, List, None, Some, not, IfErr, IfOk, IsSome, OnOk};
+ghost use Rattle.std.specs.Prelude.{◌≡◌, ◌++◌, ◌∷◌, [], nat_le, ℕ, List, Some, false, not, true, IfErr, IfOk, IsSome, OnOk};
 ghost use Rattle.std.specs.Arc.{arc_value};
 ghost use Rattle.std.specs.Option.{ForSome};
-ghost use Rattle.std.specs.Ordering.{eq_by_cmp};
+ghost use Rattle.std.specs.Ordering.{is_gt};
 ghost use Rattle.vl_model.specs.Cutting.{last_key};
-ghost use Rattle.vl_compact.specs.Filling.{Adds, FailsFilling, Fills, IsWhole, IsWrittenTo, named_up_to};
+ghost use Rattle.vl_compact.specs.Filling.{Adds, EndsWith, FailsFilling, Fills, HasReadFor, IsWhole, IsWrittenTo, named_up_to};
+ghost use Rattle.vl_compact.specs.FirstTable.{closes, frames_length};
 ghost use Rattle.vl_compact.specs.Keeps.{AreRulesOf, stage};
+ghost use Rattle.vl_compact.specs.Keys.{is_past};
 ghost use Rattle.vl_compact.specs.Lending.{FailsWriting, IsSteady};
+ghost use Rattle.vl_compact.specs.Next.{IsFirstOf};
 ghost use Rattle.vl_compact.specs.Reading.{FailsReading, MayWhere, NoneRose, counts};
-ghost use Rattle.vl_compact.specs.laws.FirstTable.{closes, frames_length};
-ghost use Rattle.vl_compact.specs.laws.ProgressLaws.{is_past};
+ghost use Rattle.vl_compact.specs.Walking.{is_behind};
 ghost use Rattle.vl_engine_model.specs.declared.job.Job as laid;
 ghost use Rattle.vl_engine_model.specs.Tables.{full_table_bytes};
 ghost use Rattle.vl_model.specs.Merging.{IsAlong};
@@ -24,6 +26,7 @@ ghost use Rattle.vl_table.specs.writer.Writing.{IsWriting};
 use crate::files::Lent;
 use crate::job_reader::JobReader;
 use crate::keeping::Keeping;
+use crate::next::Next;
 use std::alloc::Global;
 use std::sync::Arc;
 use vl_disk::{ReadFault, Writer};
@@ -43,34 +46,46 @@ pub struct Filled {
     pub found: Vec<(Key, u64)>,
 }
 
-/// Writes the first table of what is kept to its file. Nothing of it is durable yet.
-pub fn fill<C: Cursor<Fault = ReadFault>, V: Sources<Fault = ReadFault>, W: Writer>(
+/// Writes the first table of what is kept to its file: that entry, and what its cursor has behind it. Nothing of it is durable yet.
+pub fn fill<C: Cursor<Fault = ReadFault> + Drop, V: Sources<Fault = ReadFault>, W: Writer>(
     alloc: Global,
     base: &V,
     reader: &mut JobReader<C::Reader, V::Reader>,
-    keeping: &mut Keeping<C>,
+    next: Next<C>,
     lent: &mut Lent<W>,
 ) -> Result<Filled, ReadFault>
-    ensures fills { (j : laid.Job) (left : List Entry) → AreRulesOf keeping.old.rules j → V.has base.now j.inputs j.base
-        → V.fits base.now reader.old.looks → C.left keeping.old.cursor ≡ Some left → keeping.old.last ≡ None → IsAlong Up left
+    ensures fills { (j : laid.Job) (left : List Entry) → V.has base.now j.inputs j.base → V.fits base.now reader.old.looks
+        → IsFirstOf (λ c. C.left c) j left next → IsAlong Up left
         → ForSome (W.file lent.old.writer) (λ f. f.bytes ≡ []) → IfOk result (Fills W.Writer j left lent.new) }
+    // Whatever is told: what the cursor goes over up to the table's last key was read whole.
+    ensures reads { IfOk result (λ filled. C.stands_to next.keeping.cursor (is_behind (Some filled.last))) }
+    ensures ends { IfOk result (λ filled. filled.last ≡ (arc_value filled.shape).footer.last) }
     ensures number { lent.new.number ≡ lent.old.number }
     ensures tells { IsSome (W.file lent.old.writer) → IsSome (W.file lent.new.writer) }
     ensures fits { V.fits base.now reader.old.looks → V.fits base.now reader.new.looks }
     ensures steady { OnOk result (NoneRose (counts (λ l. V.faults l) (λ r. C.faults r) reader.old reader.new)) }
     ensures kept { OnOk result (IsSteady W.Writer lent.old lent.new) }
     ensures cause { IfErr result (λ fault. FailsFilling W.Writer (FailsReading (λ f. V.is_read_fault f)
-        (MayWhere (V.fits base.now reader.old.looks) (V.may_fail base.now)) (λ f. C.is_read_fault f) (C.may_fail keeping.old.cursor))
+        (MayWhere (V.fits base.now reader.old.looks) (V.may_fail base.now)) (λ f. C.is_read_fault f) (C.may_fail next.keeping.cursor))
         (counts (λ l. V.faults l) (λ r. C.faults r) reader.old reader.new) lent.old lent.new fault) }
 {
-    let mut found = Vec::new(alloc);
-    // There is one wherever the sources tell what they have.
-    let Some(first) = keeping.next(base, reader, &mut found)? else {
-        return Err(ReadFault::NoMemory);
-    };
+    let Next {
+        first,
+        keeping,
+        found,
+    } = next;
+    let mut keeping = keeping;
+    let mut found = found;
     let mut table = begin(alloc, lent, &first)?;
     add_kept(
-        alloc, base, reader, keeping, &mut found, lent, &mut table, first,
+        alloc,
+        base,
+        reader,
+        &mut keeping,
+        &mut found,
+        lent,
+        &mut table,
+        first,
     )?;
     finish(alloc, lent, table, found)
 }
@@ -83,6 +98,7 @@ fn begin<W: Writer>(
 ) -> Result<TableWriter, ReadFault>
     ensures begun { ForSome (W.file lent.old.writer) (λ f. f.bytes ≡ [])
         → IfOk result (λ table. IsWrittenTo W.Writer lent.new table (first.now ∷ [])) }
+    ensures ends { IfOk result (λ table. EndsWith table first.now.key) }
     ensures number { lent.new.number ≡ lent.old.number }
     ensures tells { IsSome (W.file lent.old.writer) → IsSome (W.file lent.new.writer) }
     ensures steady { OnOk result (IsSteady W.Writer lent.old lent.new) }
@@ -98,7 +114,7 @@ fn begin<W: Writer>(
     }
 }
 
-// Adds the entries that are kept until the table is full and another key comes.
+// Adds the entries that are kept until the table is full and a greater key comes.
 fn add_kept<C: Cursor<Fault = ReadFault>, V: Sources<Fault = ReadFault>, W: Writer>(
     alloc: Global,
     base: &V,
@@ -110,9 +126,10 @@ fn add_kept<C: Cursor<Fault = ReadFault>, V: Sources<Fault = ReadFault>, W: Writ
     first: Entry,
 ) -> Result<(), ReadFault>
     ensures adds { (j : laid.Job) (left : List Entry) → AreRulesOf keeping.old.rules j → V.has base.now j.inputs j.base
-        → V.fits base.now reader.old.looks → C.left keeping.old.cursor ≡ Some left
+        → V.fits base.now reader.old.looks → C.left keeping.old.cursor ≡ Some left → IsAlong Up (first ∷ left)
         → IsWrittenTo W.Writer lent.old table.old (first ∷ [])
         → OnOk result (Adds W.Writer j first (stage keeping.old.last left found.old.items) found.new.items lent.new table.new) }
+    ensures reads { EndsWith table.old first.key → OnOk result (HasReadFor (C.stands_to keeping.old.cursor) table.new) }
     ensures number { lent.new.number ≡ lent.old.number }
     ensures tells { IsSome (W.file lent.old.writer) → IsSome (W.file lent.new.writer) }
     ensures fits { V.fits base.now reader.old.looks → V.fits base.now reader.new.looks }
@@ -142,6 +159,7 @@ fn add<W: Writer>(
 ) -> Result<(), ReadFault>
     ensures added { (es : List Entry) → IsWrittenTo W.Writer lent.old table.old es
         → OnOk result (IsWrittenTo W.Writer lent.new table.new (es ++ entry.now ∷ [])) }
+    ensures ends { (key : List ℕ) → EndsWith table.old key → OnOk result (EndsWith table.new entry.now.key) }
     ensures number { lent.new.number ≡ lent.old.number }
     ensures tells { IsSome (W.file lent.old.writer) → IsSome (W.file lent.new.writer) }
     ensures steady { OnOk result (IsSteady W.Writer lent.old lent.new) }
@@ -169,19 +187,21 @@ fn append_some<W: Writer>(lent: &mut Lent<W>, piece: &[u8]) -> Result<(), ReadFa
     lent.append(piece)
 }
 
-// Whether the table that ends with this key is closed before an entry.
+// Whether the table that ends with this key is closed before an entry, which must be of a greater one: a lesser one would not
+// come again.
 fn closes(table: &TableWriter, last: &Key, entry: &Entry) -> bool
-    ensures { (number : ℕ) (es : List Entry) (given : List ℕ) → IsWriting table.now number es given → last.now ≡ last_key es
-        → result ≡ closes es entry.now }
+    ensures closes { (number : ℕ) (es : List Entry) (given : List ℕ) → IsWriting table.now number es given → last.now ≡ last_key es
+        → is_gt (key_cmp last.now entry.now.key) ≡ false → result ≡ closes es entry.now }
+    ensures behind { result ≡ true → is_behind (Some last.now) entry.now ≡ true }
 {
-    !is_of(last, entry) && is_full(table)
+    is_behind(last, entry) && is_full(table)
 }
 
-// Whether an entry is of a key.
-fn is_of(key: &Key, entry: &Entry) -> bool
-    ensures { result ≡ eq_by_cmp key_cmp key.now entry.now.key }
+// Whether an entry is of a greater key.
+fn is_behind(key: &Key, entry: &Entry) -> bool
+    ensures { result ≡ is_behind (Some key.now) entry.now }
 {
-    key_order(key.as_slice(), entry.key.as_slice()).is_eq()
+    key_order(key.as_slice(), entry.key.as_slice()).is_lt()
 }
 
 // Whether the frames of the blocks have reached the measure of a full table.
@@ -201,7 +221,8 @@ fn finish<W: Writer>(
 ) -> Result<Filled, ReadFault>
     ensures whole { (es : List Entry) → IsWrittenTo W.Writer lent.old table es
         → IfOk result (λ filled. IsWhole W.Writer lent.new es (arc_value filled.shape)) }
-    ensures last { (es : List Entry) → IsWrittenTo W.Writer lent.old table es → IfOk result (λ filled. filled.last ≡ last_key es) }
+    ensures last { (key : List ℕ) → EndsWith table key → IfOk result (λ filled. filled.last ≡ key) }
+    ensures ends { IfOk result (λ filled. filled.last ≡ (arc_value filled.shape).footer.last) }
     ensures found { IfOk result (λ filled. filled.found.items ≡ named_up_to filled.last found.items) }
     ensures number { lent.new.number ≡ lent.old.number }
     ensures tells { IsSome (W.file lent.old.writer) → IsSome (W.file lent.new.writer) }
@@ -261,7 +282,8 @@ fn is_up_to(last: &Key, deletion: &(Key, u64)) -> bool
     !key_order(last.as_slice(), deletion.0.as_slice()).is_lt()
 }
 
-// What refuses an entry is want of memory: the entries of true tables may all stand in one, in their order.
+// The only answer is want of memory: also where an entry isn't in order, as of a table that was made up, and where the table would
+// be too long, as versions of one key may make it.
 fn refused(fail: AddFail) -> ReadFault
     ensures { result ≡ NoMemory }
 {

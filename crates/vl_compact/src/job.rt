@@ -1,7 +1,7 @@
 //! A merge that is under way: it makes its tables one by one, each in a file that it is lent.
 //!
-//! Between two calls it has no block and no cursor, and of where it is nothing but a key: all versions of a key come to lie in
-//! one table, so it begins anew behind the last key of its last table.
+//! It has no block and no cursor, and of where it is nothing but a key: all versions of a key come to lie in one table, so it
+//! begins anew behind the last key of its last table.
 
 use crate::Inputs;
 use crate::append::append_reserved;
@@ -10,6 +10,7 @@ use crate::fill::{Filled, fill};
 use crate::job_reader::JobReader;
 use crate::keeping::Keeping;
 use crate::merge::merged;
+use crate::next::Next;
 use crate::parts::Parts;
 use crate::race::{greatest, least_moved, numbers_of, total};
 use crate::rules::Rules;
@@ -36,8 +37,6 @@ pub struct Job<V, H: HeldFile, W: Writer> {
     // The deletions, by key and version, of the keys up to that one, or of all once it has ended, that were dropped since no
     // older version stands outside the inputs.
     needless: Vec<(Key, u64)>,
-    // Whether an entry was found that isn't in a table yet, and no table was made since.
-    waits: bool,
     // Whether it has all of its merge.
     ended: bool,
 }
@@ -134,7 +133,6 @@ impl<V: Sources, H: HeldFile, W: Writer> Job<V, H, W> {
             made: Vec::new(alloc),
             leavings: Vec::new(alloc),
             needless: Vec::new(alloc),
-            waits: false,
             ended: false,
         }
     }
@@ -175,41 +173,44 @@ impl<V: Sources, H: HeldFile, W: Writer> Job<V, H, W> {
 
 impl<V: Sources<Fault = ReadFault>, H: HeldFile, W: Writer> Job<V, H, W> {
     ghost use Rattle.std.specs.Prelude.{◌≡◌, ◌<◌, ◌≤◌, ◌+◌, ◌++◌, Bool, List, None, Some, map, true, false, vec_capacity};
-    ghost use Rattle.std.specs.Prelude.{vec_len, IfErr, IfOk, IsSome, OnErr, OnOk};
+    ghost use Rattle.std.specs.Prelude.{vec_len, is_some, IfErr, IfNone, IfOk, IsSome, OnErr, OnOk};
+    ghost use Rattle.std.specs.Arc.{arc_value};
     ghost use Rattle.std.specs.List.{flat_map};
+    ghost use Rattle.std.specs.Option.{ForSome};
     ghost use Rattle.vl_compact.specs.Filling.{FailsFilling, Fills};
     ghost use Rattle.vl_compact.specs.Keys.{behind};
     ghost use Rattle.vl_compact.specs.Laid.{AreTablesOf};
-    ghost use Rattle.vl_compact.specs.Progress.{Answers, FailsWith, Has, HasRoom, IsFresh, IsSettled, KeepsAll, Leaves, Takes, HasTaken};
+    ghost use Rattle.vl_compact.specs.Next.{IsFirstOf};
+    ghost use Rattle.vl_compact.specs.Progress.{Answers, FailsWith, Has, HasRead, HasRoom, HasTaken, IsFresh, IsNextOf, IsSettled};
+    ghost use Rattle.vl_compact.specs.Progress.{KeepsAll, Leaves, Takes, left_behind};
     ghost use Rattle.vl_compact.specs.Reading.{FailsReading, MayWhere, NoneRose, counts};
-    ghost use Rattle.vl_engine_model.specs.Merging.{inputs_of};
     ghost use Rattle.vl_engine_model.specs.Sources.{table_entries};
     ghost use Rattle.vl_engine_model.specs.declared.job.Job as laid;
     ghost use Rattle.vl_engine_model.specs.declared.table.Table as laid_table;
     ghost use Rattle.vl_model.specs.Merging.{merged};
     ghost use Rattle.vl_model.specs.declared.way.Way.TheVariants.{Up};
-    ghost use Rattle.vl_compact.specs.Stops.{InputsReadTo, MayStopIn};
+    ghost use Rattle.vl_compact.specs.Stops.{InputsReadTo, InputsReadUpTo, MayStopIn};
     ghost use Rattle.vl_merge.specs.Standing.{IsUpward};
     ghost use Rattle.vl_model.specs.declared.entry.Entry.{Entry};
     ghost use Rattle.vl_table.specs.CursorParts.{is_disk_fault};
     ghost use Rattle.vl_table.specs.Tables.{number_of};
     ghost use Rattle.vl_disk.specs.declared.read_fault.ReadFault.{ReadFault};
 
-    /// Whether it keeps an entry that isn't in one of its tables. It reads on behind the last one until it meets such an
-    /// entry; where none is left, it has all of its merge. After a fault it is as before.
+    /// The next entry that it keeps and that isn't in one of its tables, for which `fill` makes one. It reads on behind the last
+    /// one until it meets such an entry; where none is left, it has all of its merge. After a fault it is as before.
     pub fn ready<R: Reader<Held = H> + Drop>(
         &mut self,
         alloc: Global,
         reader: &mut JobReader<R, V::Reader>,
-    ) -> Result<bool, ReadFault>
+    ) -> Result<Option<Next<Merge<TableCursor<H, R>>>>, ReadFault>
         ensures answers { (j : laid.Job) → V.fits self.old.base reader.old.looks → Has W.Writer H.bytes V.has self.old j
-            → IfOk result (Answers W.Writer H.bytes V.has self.new j) }
-        // Whatever is told: where more is kept it waits for a file, and where nothing is it has ended, and waits for none.
-        ensures asked { IfOk result (λ more. (more ≡ true → self.new.waits ≡ true) × (more ≡ false → self.new.ended ≡ true)) }
-        ensures cleared { IfOk result (λ more. more ≡ false → self.new.waits ≡ false) }
+            → IfOk result (Answers W.Writer H.bytes V.has (λ c. ⟦<Merge<TableCursor<H, R>> as Cursor>⟧.left c) self.new j) }
+        // Whatever is told: where more is kept it hasn't ended, and where nothing is it has.
+        ensures next { IfOk result (λ next. ForSome next (IsNextOf (λ c m. ⟦<Merge<TableCursor<H, R>> as Cursor>⟧.stands_to c m)
+            (λ c f. ⟦<Merge<TableCursor<H, R>> as Cursor>⟧.may_fail c f) H.bytes self.new)) }
+        ensures ended { IfOk result (λ next. IfNone next (self.new.ended ≡ true)) }
         ensures kept { KeepsAll self.old self.new }
-        ensures refused { OnErr result ((self.new.needless.items ≡ self.old.needless.items) × (self.new.waits ≡ self.old.waits)
-            × (self.new.ended ≡ self.old.ended)) }
+        ensures refused { OnErr result ((self.new.needless.items ≡ self.old.needless.items) × (self.new.ended ≡ self.old.ended)) }
         ensures fits { V.fits self.old.base reader.old.looks → V.fits self.old.base reader.new.looks }
         ensures steady { OnOk result (NoneRose (counts (λ l. V.faults l) (λ r. R.faults r) reader.old reader.new)) }
         // Reading fails only where a count says so. Which fault of its sources it is hangs on what the reader keeps. An input is
@@ -218,39 +219,45 @@ impl<V: Sources<Fault = ReadFault>, H: HeldFile, W: Writer> Job<V, H, W> {
             (MayWhere (V.fits self.old.base reader.old.looks) (V.may_fail self.old.base)) is_disk_fault
             (MayStopIn H.bytes self.old.after self.old.inputs.tables.items)
             (counts (λ l. V.faults l) (λ r. R.faults r) reader.old reader.new)) }
-        // Where it ends here, each block of its inputs that may have keys behind the last key made was read, and stood.
-        ensures whole { IfOk result (λ more. more ≡ false → self.old.ended ≡ false
-            → InputsReadTo H.bytes self.old.after (λ _. false) self.old.inputs.tables.items) }
+        // Of the blocks of its inputs that may have keys behind the last key made each was read, and stood: where more is kept up to
+        // one that has such an entry, and where it ends here all.
+        ensures whole { IfOk result (λ next. self.old.ended ≡ false
+            → InputsReadTo H.bytes self.old.after (λ _. is_some next) self.old.inputs.tables.items) }
+        ensures read { HasRead H.bytes self.old → HasRead H.bytes self.new }
     {
         if self.ended {
-            self.waits = false;
-            return Ok(false);
+            return Ok(None);
         }
         let mut keeping = self.keeping(alloc)?;
         let mut found = Vec::new(alloc);
-        let next = keeping.next(&self.base, reader, &mut found)?;
-        if next.is_some() {
-            self.waits = true;
-            return Ok(true);
-        }
-        self.needless.append(&mut found)?;
-        self.waits = false;
-        self.ended = true;
-        Ok(false)
+        let Some(first) = keeping.next(&self.base, reader, &mut found)? else {
+            self.needless.append(&mut found)?;
+            self.ended = true;
+            return Ok(None);
+        };
+        Ok(Some(Next {
+            first,
+            keeping,
+            found,
+        }))
     }
 
-    /// Makes the next table in this file, which `ready` waits for: one append for the header, each block, the index, the
-    /// filter, the footer and the last eight bytes, then one sync. After a fault it is as before, and the file is a leaving.
+    /// Makes the next table in this file, of what `ready` gave: one append for the header, each block, the index, the filter, the
+    /// footer and the last eight bytes, then one sync. After a fault it is as before, and the file is a leaving.
     pub fn fill<R: Reader<Held = H> + Drop>(
         &mut self,
         alloc: Global,
         reader: &mut JobReader<R, V::Reader>,
+        next: Next<Merge<TableCursor<H, R>>>,
         fresh: Lent<W>,
     ) -> Result<(), ReadFault>
-        requires waits { self.old.waits ≡ true }
+        requires next { IsNextOf (λ c m. ⟦<Merge<TableCursor<H, R>> as Cursor>⟧.stands_to c m)
+            (λ c f. ⟦<Merge<TableCursor<H, R>> as Cursor>⟧.may_fail c f) H.bytes self.old next }
         requires room { HasRoom self.old }
         ensures next { (j : laid.Job) → V.fits self.old.base reader.old.looks → IsFresh W.Writer fresh
-            → Has W.Writer H.bytes V.has self.old j → OnOk result (Has W.Writer H.bytes V.has self.new j) }
+            → Has W.Writer H.bytes V.has self.old j
+            → IsFirstOf (λ c. ⟦<Merge<TableCursor<H, R>> as Cursor>⟧.left c) j (left_behind j self.old.after) next
+            → OnOk result (Has W.Writer H.bytes V.has self.new j) }
         ensures takes { OnOk result (Takes W.Writer fresh self.old self.new) }
         ensures refused { OnErr result (Leaves W.Writer fresh self.old self.new) }
         ensures fits { V.fits self.old.base reader.old.looks → V.fits self.old.base reader.new.looks }
@@ -261,9 +268,12 @@ impl<V: Sources<Fault = ReadFault>, H: HeldFile, W: Writer> Job<V, H, W> {
             (MayWhere (V.fits self.old.base reader.old.looks) (V.may_fail self.old.base)) is_disk_fault
             (MayStopIn H.bytes self.old.after self.old.inputs.tables.items))
             (counts (λ l. V.faults l) (λ r. R.faults r) reader.old reader.new) fresh self.old self.new) }
+        // Whatever is told: what its inputs have behind the last key made was read whole up to the new last key.
+        ensures whole { OnOk result (InputsReadUpTo H.bytes self.old.after self.new.after self.old.inputs.tables.items) }
+        ensures read { HasRead H.bytes self.old → HasRead H.bytes self.new }
     {
         let mut lent = fresh;
-        match self.write(alloc, reader, &mut lent) {
+        match self.write(alloc, reader, next, &mut lent) {
             Ok(filled) => {
                 self.take(lent, filled);
                 Ok(())
@@ -280,15 +290,22 @@ impl<V: Sources<Fault = ReadFault>, H: HeldFile, W: Writer> Job<V, H, W> {
         &mut self,
         alloc: Global,
         reader: &mut JobReader<R, V::Reader>,
+        next: Next<Merge<TableCursor<H, R>>>,
         lent: &mut Lent<W>,
     ) -> Result<Filled, ReadFault>
+        requires { IsNextOf (λ c m. ⟦<Merge<TableCursor<H, R>> as Cursor>⟧.stands_to c m)
+            (λ c f. ⟦<Merge<TableCursor<H, R>> as Cursor>⟧.may_fail c f) H.bytes self.old next }
         ensures fills { (j : laid.Job) → V.fits self.old.base reader.old.looks → IsFresh W.Writer lent.old
             → Has W.Writer H.bytes V.has self.old j
-            → IfOk result (Fills W.Writer j (merged Up (behind self.old.after (inputs_of j.base))) lent.new) }
+            → IsFirstOf (λ c. ⟦<Merge<TableCursor<H, R>> as Cursor>⟧.left c) j (left_behind j self.old.after) next
+            → IfOk result (Fills W.Writer j (left_behind j self.old.after) lent.new) }
         ensures settled { OnOk result (IsSettled W.Writer lent.new) }
         ensures same { self.new ≡ record self.old { needless = self.new.needless } }
         ensures items { self.new.needless.items ≡ self.old.needless.items }
         ensures room { IfOk result (λ filled. vec_len self.new.needless + vec_len filled.found ≤ vec_capacity self.new.needless) }
+        ensures ends { IfOk result (λ filled. filled.last ≡ (arc_value filled.shape).footer.last) }
+        ensures whole { IfOk result
+            (λ filled. InputsReadUpTo H.bytes self.old.after (Some filled.last) self.old.inputs.tables.items) }
         ensures number { lent.new.number ≡ lent.old.number }
         ensures tells { IsSome (W.file lent.old.writer) → IsSome (W.file lent.new.writer) }
         ensures fits { V.fits self.old.base reader.old.looks → V.fits self.old.base reader.new.looks }
@@ -298,8 +315,7 @@ impl<V: Sources<Fault = ReadFault>, H: HeldFile, W: Writer> Job<V, H, W> {
             (MayStopIn H.bytes self.old.after self.old.inputs.tables.items))
             (counts (λ l. V.faults l) (λ r. R.faults r) reader.old reader.new) lent.old lent.new) }
     {
-        let mut keeping = self.keeping(alloc)?;
-        let filled = fill(alloc, &self.base, reader, &mut keeping, lent)?;
+        let filled = fill(alloc, &self.base, reader, next, lent)?;
         self.needless.reserve(filled.found.len())?;
         lent.sync()?;
         Ok(filled)
@@ -310,7 +326,7 @@ impl<V: Sources<Fault = ReadFault>, H: HeldFile, W: Writer> Job<V, H, W> {
         requires made { vec_len self.old.made < vec_capacity self.old.made }
         requires room { vec_len self.old.needless + vec_len filled.found ≤ vec_capacity self.old.needless }
         ensures same { self.new ≡ record self.old
-            { after = Some filled.last; made = self.new.made; needless = self.new.needless; waits = false } }
+            { after = Some filled.last; made = self.new.made; needless = self.new.needless } }
         ensures made { HasTaken lent filled self.old.made.items self.new.made.items }
         ensures needless { self.new.needless.items ≡ self.old.needless.items ++ filled.found.items }
     {
@@ -323,7 +339,6 @@ impl<V: Sources<Fault = ReadFault>, H: HeldFile, W: Writer> Job<V, H, W> {
         });
         append_reserved(&mut self.needless, found);
         self.after = Some(last);
-        self.waits = false;
     }
 
     // What it still keeps, from the place on at which it is.

@@ -2,11 +2,10 @@
 
 ghost use Rattle.std.specs.Prelude.{◌≡◌, ◌++◌, ◌∷◌, [], Bool, List, Some, IfOk};
 ghost use Rattle.std.specs.List.{AllByRecursion, AllZip, flat_map};
-ghost use Rattle.vl_compact.specs.Keys.{behind};
+ghost use Rattle.vl_compact.specs.Keys.{behind, span_behind};
 ghost use Rattle.vl_compact.specs.Laid.{AreTablesOf, IsTableOf};
 ghost use Rattle.vl_compact.specs.Lefts.{HasBehind};
 ghost use Rattle.vl_compact.specs.Stops.{InputsReadTo, MayStopIn};
-ghost use Rattle.vl_compact.specs.laws.BehindLaws.{span_behind};
 ghost use Rattle.vl_engine_model.specs.Sources.{table_entries};
 ghost use Rattle.vl_engine_model.specs.declared.table.Table as laid;
 ghost use Rattle.vl_merge.specs.MergeOf.{OneMayFail};
@@ -15,7 +14,6 @@ ghost use Rattle.vl_model.specs.Merging.{merged};
 ghost use Rattle.vl_model.specs.declared.entry.Entry.{Entry};
 ghost use Rattle.vl_model.specs.declared.way.Way.TheVariants.{Up};
 ghost use Rattle.vl_table.specs.ReadTo.{TablesReadTo};
-ghost use Rattle.vl_table.specs.Tables.{IsOf};
 ghost use Rattle.vl_disk.specs.declared.read_fault.ReadFault.{ReadFault};
 
 use std::alloc::{AllocError, Global};

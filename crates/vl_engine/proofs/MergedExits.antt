@@ -7,10 +7,12 @@ use Rattle.std.specs.Option.{ForSome}
 use Rattle.std.proofs.Common.{sym, ap, subst, ◌∙◌, arith, refl, inl, inr}
 use Rattle.std.proofs.lemmas.Bool.Decides.{nat_tests}
 use Rattle.vl_compact.specs.Laid.{AreBoth}
-use Rattle.vl_compact.specs.Progress.{IsTableFile, made_of}
+use Rattle.vl_compact.specs.Progress.{HasRead, IsTableFile, made_of}
 use Rattle.vl_compact.specs.Racing.{IsMoved}
+use Rattle.vl_compact.specs.Stops.{AreReadWhole, InputsReadOn}
 use Rattle.vl_compact.specs.declared.files.Lent.{Lent}
 use Rattle.vl_compact.specs.declared.files.Synced.{Synced}
+use Rattle.vl_compact.specs.declared.inputs.Inputs.{Inputs}
 use Rattle.vl_compact.specs.declared.job.Job.{Job}
 use Rattle.vl_disk.specs.Calls.{ChangesNothing}
 use Rattle.vl_disk.specs.DiskState.{DiskState}
@@ -23,21 +25,20 @@ use Rattle.vl_disk.specs.declared.watched.Watched.{Ghosts}
 use Rattle.vl_disk.specs.declared.writer.Writer.{Ghosts as Writers}
 use Rattle.vl_engine.proofs.Refusing.{IsAnswer, draws_none, has_drawn}
 use Rattle.vl_engine.proofs.Whole.{install_history}
-use Rattle.vl_engine.specs.Merged.{FailsMerging, HaltsMerging, HasMerged, MergesAs, PutsIn}
+use Rattle.vl_engine.specs.Merged.{FailsMerging, HasMerged, IsDueIn, MergesAs, PutsIn}
 use Rattle.vl_engine.specs.Refusals.{CarriesOutAs, FailsToMake, HaltsDrawing, HasDrawn, IsLastDrawn, IsOutOfTables}
 use Rattle.vl_engine.specs.Refusals.{KeepsAllBelow, LeavesStore, LendsFrom, Moment, drawn_by, moved_in, of_install}
 use Rattle.vl_engine.specs.Whole.{HasSameLogs}
 use Rattle.vl_engine.specs.declared.fails.MergeFail.TheVariants as merge
 use Rattle.vl_engine.specs.declared.fails.MergeFail.{MergeFail}
-use Rattle.vl_engine_laws.specs.Lent.{StandsOpen, lent_in}
+use Rattle.vl_engine_laws.specs.Lent.{lent_in}
 use Rattle.vl_engine_laws.specs.Represents.{Represents}
 use Rattle.vl_engine_laws.specs.declared.kept.Core.{Core}
 use Rattle.vl_engine_laws.specs.declared.open.OpenMerge.{OpenMerge}
 use Rattle.vl_engine_model.specs.Decides.{Answered, Decides, Effects, Otherwise}
-use Rattle.vl_engine_model.specs.Jobs.{AreOutputs, Made}
+use Rattle.vl_engine_model.specs.Jobs.{AreOutputs}
 use Rattle.vl_engine_model.specs.Merging.{outputs}
 use Rattle.vl_engine_model.specs.Rulings.Install.{Installed, install_ruling}
-use Rattle.vl_engine_model.specs.Rulings.Plan.{plan_ruling}
 use Rattle.vl_engine_model.specs.declared.job.Job as laid_job
 use Rattle.vl_engine_model.specs.declared.layout.Layout.{Layout}
 use Rattle.vl_model.specs.Conflicts.{Named}
@@ -141,19 +142,18 @@ module _ {D H R W : Type 0} (g : Ghosts D) (w : Writers W) (bytes : H → Option
 
   -- its tables weren't made
   pub unmade : (p mid new : Moment D H) (job : Job (Base H R) H W w) (key : Option (List ℕ)) → IsSame old p → IsSame mid new
-      → job.base.version ≡ old.core.version
-      → ((h : History) (l : Layout) → StandsOpen bytes old.core old.merging h l → ForSome (plan_ruling l h).answer (HasMerge w bytes job))
+      → IsDueIn g w bytes faults_of old job → InputsReadOn bytes None key job.inputs.tables.items
       → (fail : MergeFail) → CarriesOutAs w bytes faults_of g job key p mid (Err fail) → MergesAs g w bytes faults_of old new (Err fail)
-  unmade p mid new job key one two version planned fail so = by fail so
+  unmade p mid new job key one two due read fail so = by fail so
     where
       fails_so : (fault : ReadFault) → HasDrawn g p mid → FailsToMake w bytes faults_of job key (IsLastDrawn mid) fault
           → FailsMerging g w bytes faults_of old new fault
       fails_so fault drawn fails = record {
         drawn = drawn_so g old p mid new one two drawn;
         job = job;
-        version = version;
-        planned = planned;
+        due = due;
         key = key;
+        read = read;
         fails = subst (λ (c : Core H). FailsToMake w bytes faults_of job key (λ n. n + 1 ≡ c.back.state.next_table) fault) (sym two.core) fails;
       }
 
@@ -170,14 +170,24 @@ module _ {D H R W : Type 0} (g : Ghosts D) (w : Writers W) (bytes : H → Option
       by (merge.Disk name) is = at name is
       by (merge.Damaged name place) is = fails_so (read.Damaged name place) is.0 is.1
 
+  -- up to where it was read
+  pub read_to : (job now : Job (Base H R) H W w) → now.inputs ≡ job.inputs → HasRead bytes now
+      → InputsReadOn bytes None now.after job.inputs.tables.items
+  read_to job now inputs read = subst (λ (i : Inputs H). InputsReadOn bytes None now.after i.tables.items) inputs read.on
+
   -- they were put in
-  pub merged : (p mid new : Moment D H) (job : Job (Base H R) H W w) → IsSame old p → HasDrawn g p mid → MakesVersion mid.core new.core
-      → IsInstallWritten g bytes w job mid.core mid.disk new.disk → g.calls new.disk ≡ after_calls 2 (g.calls mid.disk)
+  pub merged : (p mid new : Moment D H) (job done : Job (Base H R) H W w) → IsSame old p → IsDueIn g w bytes faults_of old job
+      → done.inputs ≡ job.inputs → AreReadWhole bytes done.inputs.tables.items → HasDrawn g p mid → MakesVersion mid.core new.core
+      → IsInstallWritten g bytes w done mid.core mid.disk new.disk → g.calls new.disk ≡ after_calls 2 (g.calls mid.disk)
       → HasCause (g.faults mid.disk) (g.faults new.disk) ⊥ → HasMerged g w bytes faults_of old new
-  merged p mid new job one drawn version written calls cause = record {
+  merged p mid new job done one due inputs read drawn version written calls cause = record {
+    job = job;
+    due = due;
+    read = subst (λ (i : Inputs H). AreReadWhole bytes i.tables.items) inputs read;
     mid = mid;
     drawn = drawn_so g old p mid mid one (record { core = refl; disk = refl }) drawn;
-    job = job;
+    done = done;
+    inputs = inputs;
     written = written;
     version = version;
     calls = calls;

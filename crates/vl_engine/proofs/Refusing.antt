@@ -1,11 +1,10 @@
 -- A merge that is carried out: what each exit of it is to the one that called it.
-use Rattle.std.specs.Prelude.{◌≡◌, ◌≢◌, ℕ, ◌+◌, ◌<◌, ◌≤◌, List, [], ◌∷◌, ◌++◌, length, Option, None, Some, Result, Ok, Err, IsErrAnd}
+use Rattle.std.specs.Prelude.{◌≡◌, ℕ, ◌+◌, ◌<◌, ◌≤◌, List, [], ◌∷◌, ◌++◌, length, Option, None, Some, Result, Ok, Err, IsErrAnd}
 use Rattle.std.specs.List.{AllByRecursion}
 use Rattle.std.proofs.Common.{sym, ap, subst, ◌∙◌, append_assoc, arith, refl, inl, inr}
 use Rattle.vl_back.specs.Writing.{IsKept, KeepsOthers}
-use Rattle.vl_compact.specs.Lending.{FailsWriting}
 use Rattle.vl_compact.specs.Progress.{FailsWith, KeepsAll, Leaves, Takes}
-use Rattle.vl_compact.specs.Reading.{Counts, FailsReading, MayWhere, counts}
+use Rattle.vl_compact.specs.Reading.{FailsReading, MayWhere, counts}
 use Rattle.vl_compact.specs.Stops.{MayStopIn}
 use Rattle.vl_compact.specs.declared.files.Lent.{Lent}
 use Rattle.vl_compact.specs.declared.inputs.Inputs.{Inputs}
@@ -14,7 +13,7 @@ use Rattle.vl_compact.specs.declared.job_reader.JobReader.{JobReader}
 use Rattle.vl_disk.specs.Calls.{ChangesNothing}
 use Rattle.vl_disk.specs.DiskState.{DiskState}
 use Rattle.vl_disk.specs.Faults.{HasCause, Rose, after_calls}
-use Rattle.vl_disk.specs.Performs.{FailedAt, GoesOnTelling, calls_on}
+use Rattle.vl_disk.specs.Performs.{GoesOnTelling}
 use Rattle.vl_disk.specs.laws.Performing.{calls_then, same_tells}
 use Rattle.vl_disk.specs.declared.name.Name.TheVariants as names
 use Rattle.vl_disk.specs.declared.name.Name.{Name}
@@ -22,7 +21,7 @@ use Rattle.vl_disk.specs.declared.read_fault.ReadFault.TheVariants as read
 use Rattle.vl_disk.specs.declared.read_fault.ReadFault.{ReadFault}
 use Rattle.vl_disk.specs.declared.watched.Watched.{Ghosts}
 use Rattle.vl_disk.specs.declared.writer.Writer.{Ghosts as Writers}
-use Rattle.vl_engine.specs.Refusals.{CarriesOutAs, FailsToMake, FailsToRead, HaltsDrawing, HasDrawn, IsOutOfTables, KeepsAllBelow}
+use Rattle.vl_engine.specs.Refusals.{CarriesOutAs, FailsToMake, FailsToRead, HasDrawn, IsOutOfTables, KeepsAllBelow}
 use Rattle.vl_engine.specs.Refusals.{IsLastDrawn, LeavesStore, LendsFrom, Moment, drawn_by, moved_in, of_read, of_step}
 use Rattle.vl_engine.specs.declared.fails.MergeFail.TheVariants as merge
 use Rattle.vl_engine.specs.declared.fails.MergeFail.{MergeFail}
@@ -234,6 +233,13 @@ pub same_inputs : {V H W : Type 0} {s : Writers W} (first asked roomy : Job V H 
     → roomy.inputs ≡ first.inputs
 same_inputs {V} {H} {W} {s} first asked roomy kept same =
     ap (λ (j : Job V H W s). j.inputs) same.same ∙ ap (λ (j : Job V H W s). j.inputs) kept
+
+pub kept_inputs : {V H W : Type 0} {s : Writers W} (first asked : Job V H W s) → KeepsAll first asked → asked.inputs ≡ first.inputs
+kept_inputs {V} {H} {W} {s} first asked kept = ap (λ (j : Job V H W s). j.inputs) kept
+
+pub left_inputs : {V H W : Type 0} (w : Writers W) {s : Writers W} (file : Lent W s) (roomy last : Job V H W s)
+    → Leaves w file roomy last → last.inputs ≡ roomy.inputs
+left_inputs {V} {H} {W} w {s} file roomy last leaves = ap (λ (j : Job V H W s). j.inputs) leaves.kept
 
 -- it stands behind the same key,
 pub same_after : {V H W : Type 0} {s : Writers W} (first asked : Job V H W s) → KeepsAll first asked → asked.after ≡ first.after

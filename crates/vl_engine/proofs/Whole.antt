@@ -1,12 +1,12 @@
 -- A merge that is done whole: the engine stands for the history behind each of its calls.
-use Rattle.std.specs.Prelude.{◌≡◌, ◌<◌, ℕ, ◌+◌, Bool, true, false, if◌then◌else◌, List, [], ◌∷◌, ◌++◌, length, map}
-use Rattle.std.specs.Prelude.{take, drop, Option, None, Some, Result, Ok, Err, IsErr, OnOk}
-use Rattle.std.specs.List.{AllByRecursion, AllZip}
+use Rattle.std.specs.Prelude.{◌≡◌, ℕ, ◌+◌, Bool, true, false, if◌then◌else◌, List, [], ◌∷◌, ◌++◌, map}
+use Rattle.std.specs.Prelude.{Option, None, Some, Result, Ok, Err, IsErr, OnOk}
+use Rattle.std.specs.List.{AllByRecursion}
 use Rattle.std.specs.Option.{ForSome, option_map}
 use Rattle.std.proofs.Common.{refl, sym, ap, subst, ◌∙◌}
 use Rattle.vl_compact.specs.Keys.{behind}
 use Rattle.vl_compact.specs.Laid.{AreBoth}
-use Rattle.vl_compact.specs.Progress.{IsFresh, IsTableFile, KeepsAll, Takes, made_of}
+use Rattle.vl_compact.specs.Progress.{IsFresh, KeepsAll, Takes, made_of}
 use Rattle.vl_compact.specs.declared.files.Lent.{Lent}
 use Rattle.vl_compact.specs.declared.files.Synced.{Synced}
 use Rattle.vl_compact.specs.declared.job.Job.{Job as Merging}
@@ -39,7 +39,7 @@ use Rattle.vl_engine_laws.specs.declared.open.OpenMerge.{OpenMerge}
 use Rattle.vl_engine_model.specs.Decides.{Answered, Damaged, Decides, Effects, Failed, NoMemory, Otherwise, Outcome, as_before, no_effects}
 use Rattle.vl_engine_model.specs.Jobs.{AreDistinct, AreLent, Made, nothing_made}
 use Rattle.vl_engine_model.specs.Levels.{due_from, inputs_at}
-use Rattle.vl_engine_model.specs.Merging.{merged_entries, outputs}
+use Rattle.vl_engine_model.specs.Merging.{outputs}
 use Rattle.vl_engine_model.specs.Ruling.{Ruling, halted_at, has_no_number, has_no_epoch, leaving, pin_of}
 use Rattle.vl_engine_model.specs.Rulings.Abandon.{abandon_ruling}
 use Rattle.vl_engine_model.specs.Rulings.Fresh as fresh
@@ -49,7 +49,6 @@ use Rattle.vl_engine_model.specs.Rulings.Install.{InstallAnswer, install_checked
 use Rattle.vl_engine_model.specs.Rulings.Install.{install_unless, installed, moved_since, race}
 use Rattle.vl_engine_model.specs.Rulings.Plan.{job_of, plan_of, plan_ruling, plan_unless, planned, with_job}
 use Rattle.vl_engine_model.specs.Sources.{numbers_of}
-use Rattle.vl_engine_model.specs.Tables.{cut_into_tables}
 use Rattle.vl_engine_model.specs.declared.file_name.FileName.{FileName}
 use Rattle.vl_engine_model.specs.declared.job.Job.{Job}
 use Rattle.vl_engine_model.specs.declared.job.OpenJob.{OpenJob}
@@ -313,30 +312,6 @@ ends S P h l ruling otherwise (Damaged name place) effects same whole short lost
     (l, (decides.damaged name place refl).0, left)
 
 -- ---- jobs
-
--- A job that is the same but for room in memory has what it had.
-pub has_same : {H R W : Type 0} (writers : Writers W) (bytes : H → Option (List ℕ)) {k : _} (old new : Merging (Base H R) H W k) (j : Job)
-    → IsSameJob old new → HasMerge writers bytes old j → HasMerge writers bytes new j
-has_same {H} {R} {W} writers bytes {k} old new j same has =
-    subst (λ (x : Merging (Base H R) H W k). HasMerge writers bytes x j) (sym same.same) (record {
-      is = record {
-        tables = has.is.tables;
-        inputs = has.is.inputs;
-        numbers = has.is.numbers;
-        base = has.is.base;
-        entries = has.is.entries;
-        target = has.is.target;
-        floor = has.is.floor;
-        keep = has.is.keep;
-        some = has.is.some;
-      };
-      made = subst (λ (ts : List (Synced W k)). AllZip (IsTableFile writers) ts (take (length ts) (outputs j))) (sym same.made) has.made;
-      others = subst (λ (ts : List (Synced W k)). drop (length ts) (outputs j) ≡ cut_into_tables (behind old.after (merged_entries j)))
-          (sym same.made) has.others;
-      needless_are = has.needless_are;
-      waits = λ waits. subst (λ (ts : List (Synced W k)). length ts < length (outputs j)) (sym same.made) (has.waits waits);
-      ended = λ ended. subst (λ (ts : List (Synced W k)). length ts ≡ length (outputs j)) (sym same.made) (has.ended ended);
-    })
 
 -- The files of one that has all of its merge are ones that were lent to it.
 pub are_lent : {D H R W : Type 0} (g : Ghosts D) (writers : Writers W) (bytes : H → Option (List ℕ)) (disk : D) (halted : Option Name)

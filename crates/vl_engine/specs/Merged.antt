@@ -1,6 +1,7 @@
 -- What a whole merge answers that is done here and now: each answer has its cause, whatever the disk tells.
 use Rattle.std.specs.Prelude.{◌≡◌, ◌⊎◌, ℕ, ◌≤◌, List, Option, None, Some, Result, Ok, Err}
 use Rattle.std.specs.Option.{ForSome}
+use Rattle.vl_compact.specs.Stops.{AreReadWhole, InputsReadOn}
 use Rattle.vl_compact.specs.declared.job.Job.{Job}
 use Rattle.vl_disk.specs.DiskState.{DiskState}
 use Rattle.vl_disk.specs.Faults.{Rose, after_calls}
@@ -54,13 +55,23 @@ pub record IsOutOfEpochs {D H : Type 0} (old : Moment D H) (counter : Counter) :
   pub used : max_epoch ≤ old.core.back.epoch
 
 module _ {D H R W : Type 0} (g : Ghosts D) (w : Writers W) (bytes : H → Option (List ℕ)) (faults_of : R → ℕ) where
-  -- Its tables were made, and then the disk took them back, and the manifest has the frame that names them, by two changing calls.
+  -- It is a merge of what the engine had, and the one that the ruling on plans has.
+  pub record IsDueIn (old : Moment D H) (job : Job (Base H R) H W w) : Type 0 where
+    pub version : job.base.version ≡ old.core.version
+    pub planned : (h : History) (l : Layout) → StandsOpen bytes old.core old.merging h l
+        → ForSome (plan_ruling l h).answer (HasMerge w bytes job)
+
+  -- Its inputs were read whole. Its tables were made, and then the disk took them back, and the manifest has the frame that names them, by two changing calls.
   -- In memory they make a version.
   pub record HasMerged (old new : Moment D H) : Type 0 where
+    pub job : Job (Base H R) H W w
+    pub due : IsDueIn old job
+    pub read : AreReadWhole bytes job.inputs.tables.items
     pub mid : Moment D H
     pub drawn : HasDrawn g old mid
-    pub job : Job (Base H R) H W w
-    pub written : IsInstallWritten g bytes w job mid.core mid.disk new.disk
+    pub done : Job (Base H R) H W w
+    pub inputs : done.inputs ≡ job.inputs
+    pub written : IsInstallWritten g bytes w done mid.core mid.disk new.disk
     pub version : MakesVersion mid.core new.core
     pub calls : g.calls new.disk ≡ after_calls 2 (g.calls mid.disk)
     pub steady : g.faults new.disk ≡ g.faults mid.disk
@@ -74,15 +85,13 @@ module _ {D H R W : Type 0} (g : Ghosts D) (w : Writers W) (bytes : H → Option
     pub halts : HaltsInstall mid.core new.core name
     pub rose : Rose (g.faults mid.disk) (g.faults new.disk)
 
-  -- A table of the merge wasn't read or written. It is a merge of what the engine had, and the one that the ruling on plans has.
+  -- A table of the merge wasn't read or written, behind a key up to which it had read all and made its tables.
   pub record FailsMerging (old new : Moment D H) (fault : ReadFault) : Type 0 where
     pub drawn : HasDrawn g old new
     pub job : Job (Base H R) H W w
-    pub version : job.base.version ≡ old.core.version
-    pub planned : (h : History) (l : Layout) → StandsOpen bytes old.core old.merging h l
-        → ForSome (plan_ruling l h).answer (HasMerge w bytes job)
-    -- it had made its tables up to this key
+    pub due : IsDueIn old job
     pub key : Option (List ℕ)
+    pub read : InputsReadOn bytes None key job.inputs.tables.items
     pub fails : FailsToMake w bytes faults_of job key (IsLastDrawn new) fault
 
   -- it halts only at its own disk: at the next table, or at putting its tables in

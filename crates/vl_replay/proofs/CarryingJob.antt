@@ -1,7 +1,7 @@
 -- What the calls of a round do to a merge's job: what it has, its files, and why reading or writing it failed.
-use Rattle.std.specs.Prelude.{◌≡◌, ◌+◌, ◌-◌, ◌^◌, ◌<◌, ◌≤◌, ℕ, zero, suc, min, true, List, [], ◌∷◌, ◌++◌, length, map}
-use Rattle.std.specs.Prelude.{take, drop, Option, None, Some, Err, IsSome, is_some, slice_get, ◌⊎◌}
-use Rattle.std.specs.List.{AllByRecursion, AllZip}
+use Rattle.std.specs.Prelude.{◌≡◌, ◌+◌, ◌-◌, ◌^◌, ◌≤◌, ℕ, zero, suc, min, true, List, [], ◌∷◌, ◌++◌, map}
+use Rattle.std.specs.Prelude.{Option, None, Some, Err, IsSome, is_some, slice_get, ◌⊎◌}
+use Rattle.std.specs.List.{AllByRecursion}
 use Rattle.std.specs.Option.{ForSome}
 use Rattle.std.proofs.Common.{⊎_elim, refl, ap, sym, ◌∙◌, subst, arith, append-nil}
 use Rattle.std.proofs.lemmas.List.{map-append}
@@ -35,8 +35,6 @@ use Rattle.vl_steps.specs.declared.fails.StepFail.{StepFail}
 use Rattle.vl_steps.specs.declared.fails.StepFail.TheVariants as fails
 use Rattle.vl_engine_laws.specs.declared.open.OpenMerge.{OpenMerge}
 use Rattle.vl_engine_model.specs.Jobs.{AreDistinct}
-use Rattle.vl_engine_model.specs.Merging.{merged_entries, outputs}
-use Rattle.vl_engine_model.specs.Tables.{cut_into_tables}
 use Rattle.vl_engine_model.specs.declared.job.Job.{Job}
 use Rattle.vl_engine_model.specs.declared.table.Table as laid
 use Rattle.vl_model.specs.Numbers.{has}
@@ -60,30 +58,6 @@ use Rattle.vl_replay.specs.Rounds.{HasLent, halt_by}
 use Rattle.vl_replay.proofs.CarryingLists.{all_among, all_more, apart_all, more_distinct}
 
 -- ---- what it has
-
--- A job that is the same but for room in memory has what it had.
-pub has_same : {H R W : Type 0} (writers : Writers W) (bytes : H → Option (List ℕ)) {k : _} (old new : TheJob (Base H R) H W k) (j : Job)
-    → IsSameJob old new → HasMerge writers bytes old j → HasMerge writers bytes new j
-has_same {H} {R} {W} writers bytes {k} old new j same has =
-    subst (λ (x : TheJob (Base H R) H W k). HasMerge writers bytes x j) (sym same.same) (record {
-      is = record {
-        tables = has.is.tables;
-        inputs = has.is.inputs;
-        numbers = has.is.numbers;
-        base = has.is.base;
-        entries = has.is.entries;
-        target = has.is.target;
-        floor = has.is.floor;
-        keep = has.is.keep;
-        some = has.is.some;
-      };
-      made = subst (λ (ts : List (Synced W k)). AllZip (IsTableFile writers) ts (take (length ts) (outputs j))) (sym same.made) has.made;
-      others = subst (λ (ts : List (Synced W k)). drop (length ts) (outputs j) ≡ cut_into_tables (behind old.after (merged_entries j)))
-          (sym same.made) has.others;
-      needless_are = has.needless_are;
-      waits = λ waits. subst (λ (ts : List (Synced W k)). length ts < length (outputs j)) (sym same.made) (has.waits waits);
-      ended = λ ended. subst (λ (ts : List (Synced W k)). length ts ≡ length (outputs j)) (sym same.made) (has.ended ended);
-    })
 
 pub fits_same : {H R W : Type 0} (bytes : H → Option (List ℕ)) {k : _} (old new : TheJob (Base H R) H W k) (reader : BlockReader R)
     → IsSameJob old new → Fits bytes old.base.version reader → Fits bytes new.base.version reader

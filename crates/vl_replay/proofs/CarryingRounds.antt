@@ -1,9 +1,9 @@
 -- What each way in which a round of a merge ends comes to.
-use Rattle.std.specs.Prelude.{◌≡◌, ◌<◌, ◌≤◌, ◌++◌, ℕ, false, true, List, [], ◌∷◌, length, map, Option, Some, Result, Ok, Err}
+use Rattle.std.specs.Prelude.{◌≡◌, ◌<◌, ◌≤◌, ◌++◌, ℕ, List, [], ◌∷◌, length, map, Option, Some, Result, Ok, Err}
 use Rattle.std.specs.Option.{ForSome}
 use Rattle.std.proofs.Common.{refl, ap, sym, ◌∙◌, subst, arith}
 use Rattle.std.proofs.lemmas.List.{map-append}
-use Rattle.vl_compact.specs.Progress.{Answers, IsFresh, KeepsAll, Takes}
+use Rattle.vl_compact.specs.Progress.{IsFresh, KeepsAll, Takes}
 use Rattle.vl_compact.specs.declared.files.Lent.{Lent}
 use Rattle.vl_compact.specs.declared.files.Synced.{Synced}
 use Rattle.vl_compact.specs.declared.job.Job.{Job as TheJob}
@@ -13,7 +13,8 @@ use Rattle.vl_disk.specs.declared.name.Name.{Name}
 use Rattle.vl_disk.specs.declared.watched.Watched.{Ghosts}
 use Rattle.vl_disk.specs.declared.writer.Writer.{Ghosts as Writers}
 use Rattle.vl_steps.specs.Drawing.{IsSameJob}
-use Rattle.vl_steps.specs.Merging.{HasMerge, made_numbers}
+use Rattle.vl_steps.specs.Merging.{HasAllMerge, HasMerge, made_numbers}
+use Rattle.vl_steps.specs.laws.SameJobs.{has_same}
 use Rattle.vl_steps.specs.declared.fails.StepFail.{StepFail}
 use Rattle.vl_steps.specs.declared.fails.StepFail.TheVariants as fails
 use Rattle.vl_engine_laws.specs.declared.kept.Core.{Core}
@@ -24,7 +25,7 @@ use Rattle.vl_model.specs.Limits.{max_file_number}
 use Rattle.vl_table.specs.declared.block_reader.BlockReader.{BlockReader}
 use Rattle.vl_disk.specs.declared.read_fault.ReadFault.{ReadFault}
 use Rattle.vl_disk.specs.declared.read_fault.ReadFault.TheVariants as faults
-use Rattle.vl_version.specs.Bases.{Fits, HasSources}
+use Rattle.vl_version.specs.Bases.{Fits}
 use Rattle.vl_version.specs.declared.base.Base.{Base}
 use Rattle.vl_replay_laws.specs.Drawn.{IsServing, drawn_state}
 use Rattle.vl_script_model.specs.Halts.{HaltsByDisk}
@@ -37,7 +38,7 @@ use Rattle.vl_replay.proofs.CarryingDisk.{rests}
 use Rattle.vl_replay.proofs.CarryingDraws.{Came, Draws, exhausted_came, exhausted_is, exhausted_past, failed_came}
 use Rattle.vl_replay.proofs.CarryingDraws.{failed_fits, failed_name, lent_came, lent_fits, lent_number, never_halted}
 use Rattle.vl_replay.proofs.CarryingDraws.{short_came}
-use Rattle.vl_replay.proofs.CarryingJob.{has_same, not_by_disk}
+use Rattle.vl_replay.proofs.CarryingJob.{not_by_disk}
 use Rattle.vl_replay.proofs.CarryingLists.{drawn_none}
 use Rattle.vl_script_model.specs.laws.DiskSteps.{IsWatched}
 
@@ -76,9 +77,9 @@ module _ {D H R W : Type 0} (g : Ghosts D) (watched : IsWatched g) (writers : Wr
       disk = rests g watched disk s (Err (halt_by fault)) (not_by_disk Round fault);
     }
 
-    pub ended : KeepsAll first last → Answers writers bytes (λ (b : Base H R) inputs ms. HasSources bytes b.version inputs ms) last j false
+    pub ended : KeepsAll first last → HasMerge writers bytes last j → HasAllMerge writers bytes last j
         → Rounds g writers bytes disk disk core merging first last now s j (Ok rounds.Ended)
-    ended kept answers = record {
+    ended kept merge all = record {
       count = 0;
       one = omega arith;
       wanted = λ one. absurd (none_one one);
@@ -87,8 +88,8 @@ module _ {D H R W : Type 0} (g : Ghosts D) (watched : IsWatched g) (writers : Wr
       ends = (
         refl,
         record {
-          has = answers.all refl;
-          merge = answers.state;
+          has = all;
+          merge = merge;
           numbers = ap (λ (x : TheJob (Base H R) H W k). made_numbers x) kept;
           leavings = ap (λ (x : TheJob (Base H R) H W k). x.leavings.items) kept;
         },
@@ -100,11 +101,12 @@ module _ {D H R W : Type 0} (g : Ghosts D) (watched : IsWatched g) (writers : Wr
   module _ (old new : D) (before after : Core H) (was_open is_open : Option OpenMerge) {k : _}
       (first asked roomy last : TheJob (Base H R) H W k)
       (was between now : JobReader R (BlockReader R)) (way : IsUnderWay writers bytes (g.told old) before was_open first was s j)
-      (kept : KeepsAll first asked) (has : HasMerge writers bytes asked j) (waits : asked.waits ≡ true)
+      (kept : KeepsAll first asked) (has : HasMerge writers bytes asked j)
+      (short : length asked.made.items < length (outputs j))
       (fits : Fits bytes asked.base.version between.looks) (same : IsSameJob asked roomy) where
     missing : length first.made.items < length (outputs j)
     missing = subst (λ (ts : List (Synced W k)). length ts < length (outputs j)) (ap (λ (x : TheJob (Base H R) H W k). x.made.items) kept)
-        (has.waits waits)
+        short
 
     none_lent : (result : Result Round Halt) → Came g bytes old new after is_open s 0 result
         → EndsRound writers bytes first roomy now s j 0 result → Rounds g writers bytes old new after is_open first roomy now s j result

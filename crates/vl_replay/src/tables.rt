@@ -125,16 +125,16 @@ fn make_table<D: Disk>(
     ensures drawn { result ≡ Ok Made
         → (engine.old.core.back.state.next_table < 2 ^ 32) × (engine.new.core ≡ drawn_core engine.old.core) }
 {
-    match job.ready(alloc, reader) {
-        Ok(true) => {}
-        Ok(false) => return Ok(Round::Ended),
+    let next = match job.ready(alloc, reader) {
+        Ok(Some(next)) => next,
+        Ok(None) => return Ok(Round::Ended),
         Err(fault) => return Err(halt_at(fault)),
-    }
+    };
     let file = match engine.fresh(job) {
         Ok(file) => file,
         Err(fail) => return refused(fail),
     };
-    match job.fill(alloc, reader, file) {
+    match job.fill(alloc, reader, next, file) {
         Ok(()) => Ok(Round::Made),
         Err(fault) => Err(halt_at(fault)),
     }

@@ -41,6 +41,7 @@ pub mod RunLengths
 pub mod RotateSteps
 pub mod Ruled
 pub mod Steady
+pub mod SameJobs
 pub mod Stepped
 pub mod TakenFiles
 pub mod Untold

@@ -79,9 +79,9 @@ is_off false never = refl
 
 -- a call that refused left what it was asked on
 pub still : {W H R : Type 0} (writers : Writers W) (bytes : H → Option (List ℕ)) {k : _} (old new : Job (Base H R) H W k)
-    (j : laid_job.Job) → KeepsAll old new → new.needless.items ≡ old.needless.items → new.waits ≡ old.waits → new.ended ≡ old.ended
+    (j : laid_job.Job) → KeepsAll old new → new.needless.items ≡ old.needless.items → new.ended ≡ old.ended
     → HasMerge writers bytes old j → HasMerge writers bytes new j
-still {R = R} writers bytes {k} old new j kept needless_is waits_is ended_is had =
+still {R = R} writers bytes {k} old new j kept needless_is ended_is had =
     subst (λ (x : Job (Base _ R) _ _ k). HasMerge writers bytes x j) (sym kept) (record {
       is = record {
         tables = had.is.tables;
@@ -98,7 +98,6 @@ still {R = R} writers bytes {k} old new j kept needless_is waits_is ended_is had
       others = had.others;
       needless_are = needless_is ∙ (had.needless_are
           ∙ ap (λ (b : Bool). all_named (done_by b old.after (in_order (needless j)))) (sym ended_is));
-      waits = λ waits. had.waits (sym waits_is ∙ waits);
       ended = λ ended. had.ended (sym ended_is ∙ ended);
     })
 
@@ -121,7 +120,6 @@ still_left {R = R} writers bytes {k} old new j file leaves had =
       made = had.made;
       others = had.others;
       needless_are = leaves.needless_are ∙ had.needless_are;
-      waits = had.waits;
       ended = had.ended;
     })
 

@@ -2,9 +2,9 @@
 use Rattle.std.proofs.Common.{◌≡◌, ◌⊎◌, ℕ, ◌+◌, ◌≤◌, List, [], ◌∷◌, ◌++◌, length, refl, sym, ap, ◌∙◌, subst, arith, inl, inr}
 use Rattle.std.proofs.lemmas.List.{length-append}
 use Rattle.std.specs.Prelude.{Bool, true, false, if◌then◌else◌, Option, None, Some, Result, Ok, Err, IfErr, IsErrAnd}
-use Rattle.vl_compact.specs.Progress.{FailsWith, KeepsAll, Leaves}
+use Rattle.vl_compact.specs.Progress.{FailsWith, HasRead, KeepsAll, Leaves}
 use Rattle.vl_compact.specs.Reading.{FailsReading, MayWhere, counts}
-use Rattle.vl_compact.specs.Stops.{MayStopIn}
+use Rattle.vl_compact.specs.Stops.{AreReadWhole, InputsReadOn, MayStopIn}
 use Rattle.vl_compact.specs.declared.files.Lent.{Lent}
 use Rattle.vl_compact.specs.declared.inputs.Inputs.{Inputs}
 use Rattle.vl_compact.specs.declared.job.Job.{Job}
@@ -21,7 +21,7 @@ use Rattle.vl_engine_model.specs.Decides.{Answered, Failed, Outcome}
 use Rattle.vl_engine_model.specs.Jobs.{Made, job_ended}
 use Rattle.vl_engine_model.specs.Ruling.{Ruling, has_no_epoch, has_no_number, leaving}
 use Rattle.vl_engine_model.specs.Rulings.Fresh as fresh
-use Rattle.vl_engine_model.specs.Rulings.Fresh.{FreshAnswer, fresh_ruling, fresh_unless}
+use Rattle.vl_engine_model.specs.Rulings.Fresh.{fresh_ruling, fresh_unless}
 use Rattle.vl_engine_model.specs.Rulings.Install as install_ruled
 use Rattle.vl_engine_model.specs.Rulings.Install.{InstallAnswer, install_checked, install_ruling, install_unless, moved_since, race}
 use Rattle.vl_engine_model.specs.Rulings.Plan.{plan_ruling}
@@ -35,7 +35,7 @@ use Rattle.vl_model.specs.Conflicts.{Named}
 use Rattle.vl_model.specs.History.{History}
 use Rattle.vl_model.specs.declared.counter.Counter.TheVariants as counters
 use Rattle.vl_model.specs.declared.counter.Counter.{Counter}
-use Rattle.vl_steps.specs.Merging.{FitsReaders, HasMerge, fresh_outcome, install_outcome}
+use Rattle.vl_steps.specs.Merging.{fresh_outcome, install_outcome}
 use Rattle.vl_steps.specs.declared.fails.InstallFail.TheVariants as install
 use Rattle.vl_steps.specs.declared.fails.InstallFail.{InstallFail}
 use Rattle.vl_steps.specs.declared.fails.StepFail.TheVariants as step
@@ -52,7 +52,8 @@ use Rattle.vlstore.proofs.Stores.{prefix_on}
 use Rattle.vlstore.specs.Entries.{drawn_at, fresh_entry, install_entry}
 use Rattle.vlstore.specs.Knowing.{GoesOn, Knows, Stepped}
 use Rattle.vlstore.specs.Lists.{history_by, layout_by}
-use Rattle.vlstore.specs.Refused.{Between, FailsMaking, IsOutOfTables, IsRefused, StopsMaking, WasDrawn, WasFailed, WasHalted, WasRefused}
+use Rattle.vlstore.specs.Refused.{Between, FailsMaking, HasReadAll, IsDue, IsOutOfTables, IsRefused, StopsMaking, WasDrawn, WasFailed}
+use Rattle.vlstore.specs.Refused.{WasHalted, WasRefused}
 use Rattle.vlstore.specs.declared.locked.Origin.{Origin}
 use mathlib.Core.List.{IsPrefix}
 
@@ -324,16 +325,32 @@ module _ {H R W : Type 0} (sure : Type 0) (w : Writers W) (bytes : H → Option 
   unplanned v u (Ok kept) is = absurd is
   unplanned v u (Err e) is = subst (λ (f : MergeFail). IsRefused v u sure w bytes faults_of f) (sym is) tt
 
-  -- the merge that the ruling had at a moment between, and what does it
-  pub record IsDue (v u : Knows) (job : Job (Base H R) H W w) : Type 0 where
-    pub planned : laid_job.Job
-    pub due : Between v u (λ l h. (plan_ruling l h).answer ≡ Some planned)
-    pub has : HasMerge w bytes job planned
-    pub looks : FitsReaders bytes job
+  -- the merge that the ruling had at a moment between was it between moments farther apart
+  due_wider : (v p u : Knows) (job : Job (Base H R) H W w) → GoesOn p u → IsDue v p w bytes faults_of job → IsDue v u w bytes faults_of job
+  due_wider v p u job on is = record {
+    planned = is.planned;
+    due = wider (λ l h. (plan_ruling l h).answer ≡ Some is.planned) v v p u (goes_nowhere v) on is.due;
+    has = is.has;
+    looks = is.looks;
+  }
 
-  pub unmade : (v p m u : Knows) (job : Job (Base H R) H W w) (key : Option (List ℕ)) → GoesOn v p → GoesOn p m → GoesOn m u → IsDue v p job → (fail : MergeFail)
+  -- up to where its inputs were read
+  pub read_to : (job now : Job (Base H R) H W w) → now.inputs ≡ job.inputs → HasRead bytes now
+      → InputsReadOn bytes None now.after job.inputs.tables.items
+  read_to job now inputs read = subst (λ (i : Inputs H). InputsReadOn bytes None now.after i.tables.items) inputs read.on
+
+  pub read_all : (v p u : Knows) (job now : Job (Base H R) H W w) → GoesOn p u → IsDue v p w bytes faults_of job → now.inputs ≡ job.inputs
+      → AreReadWhole bytes now.inputs.tables.items → HasReadAll v u w bytes faults_of
+  read_all v p u job now on due inputs read = record {
+    job = job;
+    due = due_wider v p u job on due;
+    read = subst (λ (i : Inputs H). AreReadWhole bytes i.tables.items) inputs read;
+  }
+
+  pub unmade : (v p m u : Knows) (job : Job (Base H R) H W w) (key : Option (List ℕ)) → GoesOn v p → GoesOn p m → GoesOn m u
+      → IsDue v p w bytes faults_of job → InputsReadOn bytes None key job.inputs.tables.items → (fail : MergeFail)
       → StopsMaking p m sure w bytes faults_of job key fail → IsRefused v u sure w bytes faults_of fail
-  unmade v p m u job key first second last is fail stops = by fail stops
+  unmade v p m u job key first second last is read_so fail stops = by fail stops
     where
       drawn : (number : ℕ) → WasDrawn p m number → WasDrawn v u number
       drawn number = wider (λ l h. (fresh_ruling l h).answer ≡ fresh.Drawn number) v p m u first last
@@ -347,12 +364,10 @@ module _ {H R W : Type 0} (sure : Type 0) (w : Writers W) (bytes : H → Option 
       fails_so : (fault : ReadFault) → FailsToMake w bytes faults_of job key (WasDrawn p m) fault
           → FailsMaking v u sure w bytes faults_of fault
       fails_so fault why = record {
-        planned = is.planned;
-        due = wider (λ l h. (plan_ruling l h).answer ≡ Some is.planned) v v p u (goes_nowhere v) (goes_then p m u second last) is.due;
         job = job;
-        has = is.has;
-        looks = is.looks;
+        due = due_wider v p u job (goes_then p m u second last) is;
         key = key;
+        read = read_so;
         fails = elim why [
           | inl reads ↦ inl reads
           | inr writes ↦ inr (record {

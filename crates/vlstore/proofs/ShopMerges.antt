@@ -74,7 +74,7 @@ module _ {H R W : Type 0} (sure : Type 0) (surely : sure) (writers : Writers W) 
     | inl reads ↦ elim reads.cause [
       | inl memory ↦ memory.is
       | inr rest ↦ elim rest [
-        | inl sources ↦ looked fault (sources.had made.looks) (steady reads.after.looks.reader) sources.counted
+        | inl sources ↦ looked fault (sources.had made.due.looks) (steady reads.after.looks.reader) sources.counted
         | inr files ↦ taken fault files.had (steady reads.after.files) files.counted
       ]
     ]
@@ -90,7 +90,7 @@ module _ {H R W : Type 0} (sure : Type 0) (surely : sure) (writers : Writers W) 
       looked read.NoMemory may none counted = refl
       looked (read.Disk name) may {before} {now} none counted = absurd (none_risen before now none counted)
       looked (read.Damaged name place) may none counted =
-          let has = made.has.is.base in
+          let has = made.due.has.is.base in
           absurd (none_bad bytes (tables_in made.job.base.version) has.tabled has.tables name place may)
 
       taken : (f : ReadFault) → MayStopIn bytes made.key made.job.inputs.tables.items f → {before now : ℕ} → NoneCounted now
@@ -98,7 +98,7 @@ module _ {H R W : Type 0} (sure : Type 0) (surely : sure) (writers : Writers W) 
       taken read.NoMemory may none counted = refl
       taken (read.Disk name) may {before} {now} none counted = absurd (none_risen before now none counted)
       taken (read.Damaged name place) (i, t, there, named, stops) none counted =
-          let has = made.has.is in
+          let has = made.due.has.is in
           absurd (none_bad bytes made.job.inputs.tables.items (map (λ (l : laid.Table). l.entries) has.tables)
           (are_of bytes made.job.inputs.tables.items has.tables has.inputs) name place (i, t, there, named, stops.bad))
 

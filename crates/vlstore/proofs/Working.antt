@@ -2,10 +2,9 @@
 use Rattle.std.proofs.Common.{◌≡◌, ℕ, List, [], ◌∷◌, ◌++◌, length, map, refl, sym, ap, ◌∙◌, subst, arith}
 use Rattle.std.proofs.lemmas.Bool.{false≢true}
 use Rattle.std.proofs.lemmas.Bool.Decides.{nat_tests}
-use Rattle.std.specs.Prelude.{Bool, true, false, ◌==◌, ◌||◌, ◌<◌, is_some, take, drop, Option, None, Some, Result, Ok, Err, IfOk, IsSome}
+use Rattle.std.specs.Prelude.{Bool, true, false, ◌==◌, ◌||◌, is_some, take, Option, None, Some, Result, Ok, Err, IfOk, IsSome}
 use Rattle.std.specs.List.{AllByRecursion, AllZip}
 use Rattle.std.specs.Option.{ForSome, option_map}
-use Rattle.vl_compact.specs.Keys.{behind}
 use Rattle.vl_compact.specs.Progress.{IsTableFile, made_of}
 use Rattle.vl_compact.specs.declared.files.Lent.{Lent}
 use Rattle.vl_compact.specs.declared.files.Synced.{Synced}
@@ -17,16 +16,16 @@ use Rattle.vl_disk.specs.declared.writer.Writer.{Ghosts as Writers}
 use Rattle.vl_steps.specs.Drawing.{IsNewTo, IsSameJob}
 use Rattle.vl_steps.specs.Installing.{IsHandedIn, numbers_in}
 use Rattle.vl_steps.specs.Merging.{HasMerge, fresh_outcome}
+use Rattle.vl_steps.specs.laws.SameJobs.{has_same}
 use Rattle.vl_engine.specs.UnderWay.{IsUnderWay}
 use Rattle.vl_steps.specs.declared.fails.StepFail.{StepFail}
 use Rattle.vl_engine_laws.specs.declared.open.OpenMerge.{OpenMerge}
 use Rattle.vl_engine_model.specs.Decides.{Answered}
 use Rattle.vl_engine_model.specs.Jobs.{AreDistinct, AreLent, tables_made}
 use Rattle.vl_engine_model.specs.LockHistory.{HasOpen, IsLegal, last_layout, nothing_open, open_job}
-use Rattle.vl_engine_model.specs.Merging.{merged_entries, outputs}
+use Rattle.vl_engine_model.specs.Merging.{outputs}
 use Rattle.vl_engine_model.specs.Rulings.Fresh.{Drawn}
 use Rattle.vl_engine_model.specs.Sources.{numbers_of}
-use Rattle.vl_engine_model.specs.Tables.{cut_into_tables}
 use Rattle.vl_engine_model.specs.declared.job.Job.{Job}
 use Rattle.vl_engine_model.specs.declared.job.OpenJob.{OpenJob}
 use Rattle.vl_engine_model.specs.declared.layout.Layout.{Layout}
@@ -152,30 +151,6 @@ module _ {H R W : Type 0} (writers : Writers W) (bytes : H → Option (List ℕ)
       numbers : map (λ (t : Synced W k). t.number) job.made.items ≡ numbers_of (made_of job j).tables
       numbers = numbers_made writers job.made.items (outputs j) has_merge.made
 
-  -- a merge that is the same but for room in memory has what it had
-  pub has_same : (old new : made.Job (Base H R) H W k) (j : Job) → IsSameJob old new → HasMerge writers bytes old j
-      → HasMerge writers bytes new j
-  has_same old new j same has =
-      subst (λ (x : made.Job (Base H R) H W k). HasMerge writers bytes x j) (sym same.same) (record {
-        is = record {
-          tables = has.is.tables;
-          inputs = has.is.inputs;
-          numbers = has.is.numbers;
-          base = has.is.base;
-          entries = has.is.entries;
-          target = has.is.target;
-          floor = has.is.floor;
-          keep = has.is.keep;
-          some = has.is.some;
-        };
-        made = subst (λ (ts : List (Synced W k)). AllZip (IsTableFile writers) ts (take (length ts) (outputs j))) (sym same.made) has.made;
-        others = subst (λ (ts : List (Synced W k)). drop (length ts) (outputs j) ≡ cut_into_tables (behind old.after (merged_entries j)))
-            (sym same.made) has.others;
-        needless_are = has.needless_are;
-        waits = λ waits. subst (λ (ts : List (Synced W k)). length ts < length (outputs j)) (sym same.made) (has.waits waits);
-        ended = λ ended. subst (λ (ts : List (Synced W k)). length ts ≡ length (outputs j)) (sym same.made) (has.ended ended);
-      })
-
   numbers_same : (old new : made.Job (Base H R) H W k) → IsSameJob old new → numbers_in old ≡ numbers_in new
   numbers_same old new same =
       ap (λ (ts : List (Synced W k)). map (λ (t : Synced W k). t.number) ts ++ map (λ (f : Lent W k). f.number)
@@ -212,7 +187,7 @@ module _ {H R W : Type 0} (writers : Writers W) (bytes : H → Option (List ℕ)
           (way.tells (sym tells ∙ told));
       leavings_tell = λ told. subst (AllByRecursion (λ (f : Lent W k). IsSome (writers.file f.writer))) (sym same.leavings)
           (way.leavings_tell (sym tells ∙ told));
-      has_merge = λ told. has_same old new way.planned same (way.has_merge (sym tells ∙ told));
+      has_merge = λ told. has_same writers bytes old new way.planned same (way.has_merge (sym tells ∙ told));
     }
 
     pub fresh_lent_to : (merging : Option OpenMerge) → HasLent merging way.lent → IfOk r (λ file. IsNewTo merging file.number)

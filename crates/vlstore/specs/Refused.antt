@@ -1,5 +1,6 @@
 -- Why a session's merge was refused.
 use Rattle.std.specs.Prelude.{◌≡◌, ◌⊎◌, ℕ, ◌+◌, ◌≤◌, List, Option, None, Some, length}
+use Rattle.vl_compact.specs.Stops.{AreReadWhole, InputsReadOn}
 use Rattle.vl_compact.specs.declared.job.Job.{Job}
 use Rattle.vl_disk.specs.declared.name.Name.{Name}
 use Rattle.vl_disk.specs.declared.read_fault.ReadFault.TheVariants as read
@@ -71,6 +72,20 @@ module _ (v w : Knows) where
   abbrev pub WasRaced : Type 0
   WasRaced = (key : List ℕ) × (number : ℕ) × WasRefused (install.Raced key number)
 
+  module _ {H R W : Type 0} (writers : Writers W) (bytes : H → Option (List ℕ)) (faults_of : R → ℕ) where
+      -- The merge that the ruling on plans had is this one, and what it looks up is told.
+      pub record IsDue (job : Job (Base H R) H W writers) : Type 0 where
+        pub planned : laid_job.Job
+        pub due : Between v w (λ l h. (plan_ruling l h).answer ≡ Some planned)
+        pub has : HasMerge writers bytes job planned
+        pub looks : FitsReaders bytes job
+
+      -- The inputs of that merge were read whole.
+      pub record HasReadAll : Type 0 where
+        pub job : Job (Base H R) H W writers
+        pub due : IsDue job
+        pub read : AreReadWhole bytes job.inputs.tables.items
+
   module _ {H R W : Type 0} (sure : Type 0) (writers : Writers W) (bytes : H → Option (List ℕ)) (faults_of : R → ℕ)
     where
       -- so it is with why the tables of a job weren't made behind this key
@@ -84,16 +99,13 @@ module _ (v w : Knows) where
       StopsMaking job key (merge.Damaged name place) =
           FailsToMake writers bytes faults_of job key WasDrawn (read.Damaged name place)
 
-      -- A table of the merge that the ruling on plans had wasn't read or written.
+      -- A table of the merge that the ruling on plans had wasn't read or written, behind a key up to which it had read all and made its
+      -- tables.
       pub record FailsMaking (fault : ReadFault) : Type 0 where
-        pub planned : laid_job.Job
-        pub due : Between v w (λ l h. (plan_ruling l h).answer ≡ Some planned)
         pub job : Job (Base H R) H W writers
-        pub has : HasMerge writers bytes job planned
-        -- what it looks up is told
-        pub looks : FitsReaders bytes job
-        -- it had made its tables up to this key
+        pub due : IsDue writers bytes faults_of job
         pub key : Option (List ℕ)
+        pub read : InputsReadOn bytes None key job.inputs.tables.items
         pub fails : FailsToMake writers bytes faults_of job key WasDrawn fault
 
       -- so it is with why a whole merge was refused

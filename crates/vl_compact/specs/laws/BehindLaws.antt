@@ -18,11 +18,11 @@ use Rattle.vl_model.specs.Merging.{IsAlong, IsFirst, merged, place}
 use Rattle.vl_model.specs.Entries.{entry_cmp, in_order}
 use Rattle.vl_model.specs.Keys.{key_cmp}
 use Rattle.vl_model.specs.declared.entry.Entry.{Entry}
-use Rattle.vl_model.specs.declared.span.Span.{Span}
 use Rattle.vl_model.specs.declared.way.Way.TheVariants.{Up}
 use Rattle.vl_model.specs.laws.WinnerLaws.{key_exact}
 use Rattle.vl_model.specs.EntryOrder.{within}
 use Rattle.vl_model.specs.laws.OrderLaws.{entry_total}
+use Rattle.vl_compact.specs.Keys.{span_behind}
 use Rattle.vl_compact.specs.Walking.{Place, comes_again, seen_before, place_of, is_spent_alone, is_behind, walk, spent}
 use Rattle.vl_compact.specs.laws.Repeats.{true_false}
 use Rattle.vl_compact.specs.laws.WalkLaws.{keeps, taken, taken_new, walk-taken, spent-taken, merged_entries-walked, needless-spent}
@@ -62,7 +62,7 @@ along-merged (e ∷ es) = along-place e (merged Up es) (along-merged es)
 
 -- ---- behind a key
 
-not_greater : (r s : Ordering) → is_gt (ordering_then r s) ≡ false → is_gt r ≡ false
+pub not_greater : (r s : Ordering) → is_gt (ordering_then r s) ≡ false → is_gt r ≡ false
 not_greater Less s is = refl
 not_greater Equal s is = refl
 not_greater Greater s is = is
@@ -273,13 +273,8 @@ needless-behind j at some =
 
 -- ---- what a cursor gives
 
--- the keys behind a key: the least of them is the key with a byte more
-abbrev pub span_behind : Option (List ℕ) → Span
-span_behind None = record { lo = None; hi = None; closed = false }
-span_behind (Some key) = record { lo = Some (key ++ 0 ∷ []); hi = None; closed = false }
-
 -- a key is from that one on exactly if it is greater than this one
-from_next : (key q : List ℕ) → not (is_lt (key_cmp q (key ++ 0 ∷ []))) ≡ is_lt (key_cmp key q)
+pub from_next : (key q : List ℕ) → not (is_lt (key_cmp q (key ++ 0 ∷ []))) ≡ is_lt (key_cmp key q)
 from_next [] [] = refl
 from_next [] (b ∷ q) = by (nat_cmp b 0) refl
   where

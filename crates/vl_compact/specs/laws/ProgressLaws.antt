@@ -17,11 +17,12 @@ use Rattle.vl_model.specs.Keys.{key_cmp}
 use Rattle.vl_model.specs.declared.entry.Entry.{Entry}
 use Rattle.vl_model.specs.EntryOrder.{IsInOrder}
 use Rattle.vl_model.specs.laws.OrderLaws.{IsRising, in_order-again, in_order-rising, rising}
+use Rattle.vl_compact.specs.FirstTable.{closes, first_table, table_and_rest}
+use Rattle.vl_compact.specs.Keys.{is_past}
 use Rattle.vl_compact.specs.Walking.{is_behind}
 use Rattle.vl_compact.specs.laws.BehindLaws.{filter-all, is_less}
 use Rattle.vl_compact.specs.laws.Chosen.{all-filter}
-use Rattle.vl_compact.specs.laws.FirstTable.{all_later, turned_all, closes, cut-first, first_table, last-append}
-use Rattle.vl_compact.specs.laws.FirstTable.{none-pass, rest-behind, table_and_rest}
+use Rattle.vl_compact.specs.laws.FirstTableLaws.{all_later, turned_all, cut-first, last-append, none-pass, rest-behind}
 use Rattle.vl_compact.specs.laws.Repeats.{true_false}
 
 -- ---- filters one after the other
@@ -52,11 +53,6 @@ filter-twice p q goes (e ∷ es) = by (q e) (p e) refl refl (filter-twice p q go
     by true c of_q of_p later = ap (λ l. cond (p e) (e ∷ l) l) later
     by false true of_q of_p later = absurd (true_false (sym (goes e of_p) ∙ of_q))
     by false false of_q of_p later = later ∙ sym (ap (λ b. cond b (e ∷ filter p es) (filter p es)) of_p)
-
--- a key is behind another
-abbrev pub is_past : Option (List ℕ) → List ℕ → Bool
-is_past None key = true
-is_past (Some at) key = is_lt (key_cmp at key)
 
 past_entry : (at : Option (List ℕ)) (e : Entry) → is_behind at e ≡ true → is_past at e.key ≡ true
 past_entry None e behind = refl

@@ -16,6 +16,7 @@ use Rattle.vl_model.specs.Keys.{key_cmp}
 use Rattle.vl_model.specs.declared.entry.Entry.{Entry}
 use Rattle.vl_model.specs.laws.WinnerLaws.{entries_tied, key_exact, key_tied}
 use Rattle.vl_model.specs.laws.OrderLaws.{IsBefore, IsRising, put-less, put-equal, put-greater, rising-in_order, turned}
+use Rattle.vl_compact.specs.Racing.{moved_or}
 use Rattle.vl_compact.specs.laws.Counted.{less_parts}
 use Rattle.vl_compact.specs.laws.Repeats.{true_false}
 
@@ -85,11 +86,6 @@ lesser-swap x z o less = by o
     by : (o : Option Named) → lesser (Some x) (lesser (Some z) o) ≡ lesser (Some z) (lesser (Some x) o)
     by None = first ∙ sym second
     by (Some y) = both y (is_gt (key_cmp z.0 y.0)) (is_gt (key_cmp x.0 y.0)) refl refl
-
--- the number of a key's move with the key, or what is so of other keys
-abbrev pub moved_or : List ℕ → Option ℕ → Option Named → Option Named
-moved_or key None other = other
-moved_or key (Some number) other = Some (key, number)
 
 -- ---- of entries in order
 

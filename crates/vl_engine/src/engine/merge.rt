@@ -1,4 +1,6 @@
 ghost use Rattle.std.specs.Prelude.{◌≡◌, ◌&&◌, Err, false, not, IfOk, None, Ok, OnOk, Some};
+ghost use Rattle.vl_compact.specs.Progress.{HasRead};
+ghost use Rattle.vl_compact.specs.Stops.{AreReadWhole};
 ghost use Rattle.vl_space.specs.Collecting.{Collects};
 ghost use Rattle.vl_steps.specs.Installing.{IsHandedIn};
 ghost use Rattle.vl_steps.specs.Merging.{FitsReaders, HasMerge};
@@ -134,6 +136,10 @@ impl<D: Disk> Engine<D> {
             (moment self.old.core self.old.merging self.old.disk) (moment self.new.core self.new.merging self.new.disk) result }
         ensures sure { (name : Name) → D.gives_steady self.old.disk → result ≡ Err (fails.Disk name)
             → Rose (D.faults self.old.disk) (D.faults self.new.disk) }
+        // Of its inputs all was read up to the last key that it made, and to their end where it has all of its tables.
+        ensures inputs { job.new.inputs ≡ job.old.inputs }
+        ensures read { HasRead D.Held.bytes job.old → HasRead D.Held.bytes job.new }
+        ensures whole { OnOk result (HasRead D.Held.bytes job.old → AreReadWhole D.Held.bytes job.new.inputs.tables.items) }
         // A halted engine does nothing.
         ensures idle { (name : Name) → self.old.core.front.halted ≡ Some name → LeavesStore D.Watched
             (moment self.old.core self.old.merging self.old.disk) (moment self.new.core self.new.merging self.new.disk) }
@@ -144,11 +150,11 @@ impl<D: Disk> Engine<D> {
     {
         let mut reader = self.reader()?;
         'making: for _ in 0..MAX_FILE_NUMBER {
-            if !job.ready(self.alloc, &mut reader)? {
+            let Some(next) = job.ready(self.alloc, &mut reader)? else {
                 return Ok(());
-            }
+            };
             let file = self.fresh(job)?;
-            job.fill(self.alloc, &mut reader, file)?;
+            job.fill(self.alloc, &mut reader, next, file)?;
         }
         // Each table took a number of its own.
         Err(MergeFail::Exhausted(Counter::Table))

@@ -23,7 +23,7 @@ use vl_engine::StepFail;
 use vl_version::Base;
 
 impl<D: Disk> Session<D> {
-    /// Makes the file of the next table of this session's merge, for which `ready` asks, and lends it to the
+    /// Makes the file of the next table of this session's merge, for what `ready` gave, and lends it to the
     /// merge: `fill` takes it, beside the lock. Behind `Exhausted` (no table number is left) and `NoMemory` all
     /// is as before. `Disk { name }` halts the store, with all commits; `Halted { name }`: it is halted. The
     /// merge is to be abandoned then.

@@ -1,10 +1,12 @@
-ghost use Rattle.std.specs.Prelude.{◌≡◌, IfErr, IfOk, OnOk, true};
+ghost use Rattle.std.specs.Prelude.{◌≡◌, IfErr, IfOk, IfSome, OnOk, true};
+ghost use Rattle.vl_compact.specs.Progress.{HasRead};
+ghost use Rattle.vl_compact.specs.Stops.{AreReadWhole};
 ghost use Rattle.vl_engine.specs.Refusals.{of_install};
 ghost use Rattle.vl_steps.specs.Merging.{FitsReaders};
 ghost use Rattle.vl_engine_model.specs.declared.job.Job as laid_job;
 ghost use Rattle.vlstore.specs.Handing.{IfHandedBack, IsHandedBack, IsHandedInto, IsUnderWayIn};
 ghost use Rattle.vlstore.specs.Knowing.{GoesOn, IsOwnJob};
-ghost use Rattle.vlstore.specs.Refused.{IsRefused, StopsMaking};
+ghost use Rattle.vlstore.specs.Refused.{HasReadAll, IsRefused, StopsMaking};
 ghost use Rattle.vlstore.specs.Standing.{NeverFails};
 ghost use Rattle.vlstore.specs.Merging.{Did, IsChange, IsWork, MergedAt};
 
@@ -28,6 +30,9 @@ impl<D: Disk> Session<D> {
         // Its own steps commit nothing and leave what it began. The merge is the one that the ruling on plans has.
         ensures works { self.old.tells ≡ true → Did IsWork self.old self.new }
         ensures merged { self.old.tells ≡ true → IfOk result (MergedAt self.old self.new) }
+        // Where it was done, its inputs were read whole.
+        ensures read { self.old.tells ≡ true → IfOk result (λ kept. IfSome kept
+            (λ _. HasReadAll self.old self.new D.Writer.Writer D.Held.bytes (λ r. D.Reader.faults r))) }
         // Each refusal has its cause.
         ensures refused { self.old.tells ≡ true → IfErr result (IsRefused self.old self.new
             (NeverFails D.faults D.Reader.faults D.Writer.faults) D.Writer.Writer D.Held.bytes (λ r. D.Reader.faults r)) }
@@ -62,6 +67,10 @@ impl<D: Disk> Session<D> {
         ensures changes { self.old.tells ≡ true → Did IsChange self.old self.new }
         ensures under_way { IsUnderWayIn self.new D.Writer.Writer D.Held.bytes job.new }
         ensures handed { OnOk result (IsHandedInto self.new D.Writer.Writer D.Held.bytes job.new) }
+        // Whatever is told: of its inputs all was read up to the last key that it made, and to their end where it has all tables.
+        ensures inputs { job.new.inputs ≡ job.old.inputs }
+        ensures read { HasRead D.Held.bytes job.old → HasRead D.Held.bytes job.new }
+        ensures whole { OnOk result (HasRead D.Held.bytes job.old → AreReadWhole D.Held.bytes job.new.inputs.tables.items) }
         // Each refusal has its cause.
         ensures refused { self.old.tells ≡ true → IfErr result (StopsMaking self.old self.new
             (NeverFails D.faults D.Reader.faults D.Writer.faults) D.Writer.Writer D.Held.bytes (λ r. D.Reader.faults r) job.old
@@ -69,11 +78,11 @@ impl<D: Disk> Session<D> {
     {
         let mut reader = self.reader(rt)?;
         'making: for _ in 0..MAX_FILE_NUMBER {
-            if !job.ready(alloc, &mut reader)? {
+            let Some(next) = job.ready(alloc, &mut reader)? else {
                 return Ok(());
-            }
+            };
             let file = self.fresh(rt, job)?;
-            job.fill(alloc, &mut reader, file)?;
+            job.fill(alloc, &mut reader, next, file)?;
         }
         // Each table took a number of its own.
         Err(MergeFail::Exhausted(Counter::Table))

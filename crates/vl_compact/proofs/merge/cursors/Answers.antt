@@ -6,7 +6,7 @@ use Rattle.vl_compact.proofs.Zips.{zip_all, zip_at, zip_push}
 use Rattle.vl_compact.specs.Laid.{IsTableOf}
 use Rattle.vl_compact.specs.Lefts.{HasBehind}
 use Rattle.vl_compact.specs.Stops.{InputsReadTo, MayStopIn}
-use Rattle.vl_compact.specs.laws.BehindLaws.{span_behind}
+use Rattle.vl_compact.specs.Keys.{span_behind}
 use Rattle.vl_model.specs.declared.way.Way.TheVariants.{Up}
 use Rattle.vl_table.specs.ReadTo.{CursorStands, TablesReadTo}
 use Rattle.vl_table.specs.declared.table.Table.{Table}

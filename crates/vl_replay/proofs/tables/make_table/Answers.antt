@@ -1,13 +1,14 @@
-use Rattle.std.proofs.Common.{◌∙◌, ap, subst}
+use Rattle.std.proofs.Common.{Option, true, ◌≡◌, ◌∙◌, ap, subst}
 use Rattle.vl_script_model.specs.Sequential.{history_of}
 use Rattle.vl_version.specs.Bases.{Fits}
 use Rattle.vl_version.specs.declared.base.Base.{Base}
 use Rattle.vl_replay.proofs.AsCalled.Merging.{met_alike, met_filling, met_reading, met_unlent}
-use Rattle.std.specs.Prelude.{Err}
+use Rattle.std.specs.Prelude.{Err, IfNone}
+use Rattle.vl_steps.specs.Merging.{HasAllMerge}
+use Rattle.vl_steps.specs.laws.SameJobs.{first_same, has_same, next_same}
 use Rattle.vl_replay.specs.Rounds.{halt_by}
 use Rattle.vl_replay.specs.declared.tables.Round.{Round}
-use Rattle.vl_replay.proofs.CarryingJob.{filling_failed, filling_sure, fits_kept, fits_same, fits_taken, has_same, left_under_way, lent_under_way}
-use Rattle.vl_replay.proofs.CarryingJob.{one_lent, reading_failed, reading_sure, refused_under_way, sound_filling, sound_reading, still_lent}
+use Rattle.vl_replay.proofs.CarryingJob.{filling_failed, filling_sure, fits_kept, fits_same, fits_taken, has_same, left_under_way, lent_under_way, one_lent, reading_failed, reading_sure, refused_under_way, sound_filling, sound_reading, still_lent}
 use Rattle.vl_replay.proofs.CarryingJob.{unlent_tells}
 use Rattle.vl_replay.proofs.CarryingRounds.{ended, filled, is_fresh, unfilled, unlent, unread}
 use Rattle.vl_space.specs.Removing.{Removes}
@@ -18,27 +19,36 @@ use Rattle.vl_replay.proofs.tables.make_table.Goals as goal
 
 -- ---- it has all of its tables
 
-pub returns-in-Ok-false-clause-rounds : goal.returns-in-Ok-false-clause-rounds
-returns-in-Ok-false-clause-rounds g c s j way =
+pub returns-in-Ok-None-clause-rounds : goal.returns-in-Ok-None-clause-rounds
+returns-in-Ok-None-clause-rounds g c s j way =
     ended g.D.Watched (record { only_now = g.met.D.Disk.only_now; counts_now = g.met.D.Disk.counts_now }) g.D.Writer.Writer
     g.D.Held.HeldFile.bytes s j
     c.args.engine.now.disk c.args.engine.now.core c.args.engine.now.merging c.args.job.now c.ready.new.self c.args.reader.now
     c.ready.new.reader
-    way c.ready.ensures.kept (rw c.in-Ok-false.field-0-test at (c.in-Ok-false.ensures.answers j way.fits way.has))
+    way c.ready.ensures.kept (c.in-Ok-None.ensures.answers j way.fits way.has).state
+    (subst (λ (o : Option _). IfNone o (HasAllMerge g.D.Writer.Writer g.D.Held.HeldFile.bytes c.ready.new.self j)) c.in-Ok-None.field-0-is
+    (c.in-Ok-None.ensures.answers j way.fits way.has).all)
 
-pub returns-in-Ok-false-clause-lent : goal.returns-in-Ok-false-clause-lent
-returns-in-Ok-false-clause-lent g c lent = (
+pub returns-in-Ok-None-clause-lent : goal.returns-in-Ok-None-clause-lent
+returns-in-Ok-None-clause-lent g c lent = (
   still_lent g.D.Watched g.D.Writer.Writer c.args.engine.now.disk c.args.engine.now.merging c.args.job.now c.ready.new.self
       c.ready.ensures.kept lent,
-  c.in-Ok-false.ensures.asked.1 c.in-Ok-false.field-0-test,
+  subst (λ (o : Option _). IfNone o (c.ready.new.self.ended ≡ true)) c.in-Ok-None.field-0-is c.in-Ok-None.ensures.ended,
 )
 
-pub returns-in-Ok-false-clause-under_way : goal.returns-in-Ok-false-clause-under_way
-returns-in-Ok-false-clause-under_way g c lent =
+pub returns-in-Ok-None-clause-under_way : goal.returns-in-Ok-None-clause-under_way
+returns-in-Ok-None-clause-under_way g c lent =
     lent_under_way g.D.Watched g.D.Writer.Writer c.args.engine.now.disk c.args.engine.now.core.front.halted c.args.engine.now.merging
     c.ready.new.self
     (still_lent g.D.Watched g.D.Writer.Writer c.args.engine.now.disk c.args.engine.now.merging c.args.job.now c.ready.new.self
     c.ready.ensures.kept lent)
+
+-- ---- it goes on with what it found
+
+pub fill-requires-next : goal.fill-requires-next
+fill-requires-next g c =
+    next_same c.ready.new.self c.fresh.new.job c.fresh.ensures.job c.in-Ok-Some.next _ _ g.D.Held.HeldFile.bytes
+    (c.in-Ok-Some.ensures.next c.in-Ok-Some.next c.in-Ok-Some.field-0-is)
 
 -- ---- it couldn't read on
 
@@ -79,8 +89,8 @@ returns-in-Err-fresh-clause-rounds g c s j way =
     c.args.engine.now.disk c.fresh.new.self.disk c.args.engine.now.core c.fresh.new.self.core c.args.engine.now.merging
     c.fresh.new.self.merging
     c.args.job.now c.ready.new.self c.fresh.new.job c.fresh.new.job c.args.reader.now c.ready.new.reader c.ready.new.reader
-    way c.ready.ensures.kept (c.in-Ok-true.ensures.answers j way.fits way.has).state
-    (c.in-Ok-true.ensures.asked.0 c.in-Ok-true.field-0-test)
+    way c.ready.ensures.kept (c.in-Ok-Some.ensures.answers j way.fits way.has).state
+    ((c.in-Ok-Some.ensures.answers j way.fits way.has).missing c.in-Ok-Some.next c.in-Ok-Some.field-0-is)
     (fits_kept g.D.Held.HeldFile.bytes c.args.job.now c.ready.new.self c.ready.new.reader.looks c.ready.ensures.kept
     (c.ready.ensures.fits way.fits))
     c.fresh.ensures.job c.in-Err-fresh.fail (record {
@@ -117,19 +127,19 @@ returns-in-Ok-fill-clause-under_way g c lent =
 
 pub returns-in-Ok-fill-clause-rounds : goal.returns-in-Ok-fill-clause-rounds
 returns-in-Ok-fill-clause-rounds g c s j way =
-    let has = (c.in-Ok-true.ensures.answers j way.fits way.has).state in
+    let has = (c.in-Ok-Some.ensures.answers j way.fits way.has).state in
     let fits =
     fits_kept g.D.Held.HeldFile.bytes c.args.job.now c.ready.new.self c.ready.new.reader.looks c.ready.ensures.kept
     (c.ready.ensures.fits way.fits)
     in
     let still = fits_same g.D.Held.HeldFile.bytes c.ready.new.self c.fresh.new.job c.ready.new.reader.looks c.fresh.ensures.job fits in
-    let waits = c.in-Ok-true.ensures.asked.0 c.in-Ok-true.field-0-test in
+    let short = (c.in-Ok-Some.ensures.answers j way.fits way.has).missing c.in-Ok-Some.next c.in-Ok-Some.field-0-is in
     filled g.D.Watched (record { only_now = g.met.D.Disk.only_now; counts_now = g.met.D.Disk.counts_now }) g.D.Writer.Writer
     g.D.Held.HeldFile.bytes s j
     c.args.engine.now.disk c.fresh.new.self.disk c.args.engine.now.core c.fresh.new.self.core c.args.engine.now.merging
     c.fresh.new.self.merging
     c.args.job.now c.ready.new.self c.fresh.new.job c.fill.new.self c.args.reader.now c.ready.new.reader c.fill.new.reader
-    way c.ready.ensures.kept has waits fits c.fresh.ensures.job c.in-Ok.file (record {
+    way c.ready.ensures.kept has short fits c.fresh.ensures.job c.in-Ok.file (record {
       stands = c.in-Ok.ensures.stands (history_of s) s.store.layout;
       carries = c.in-Ok.ensures.carries (history_of s) s.store.layout;
       fits = c.in-Ok.ensures.fits (history_of s) s.store.layout;
@@ -149,8 +159,10 @@ returns-in-Ok-fill-clause-rounds g c s j way =
     c.args.engine.now.disk c.fresh.new.self.disk c.args.engine.now.core c.fresh.new.self.core c.args.engine.now.merging
     c.fresh.new.self.merging
     c.args.job.now c.ready.new.self c.fresh.new.job c.fill.new.self c.args.reader.now c.ready.new.reader c.fill.new.reader
-    way c.ready.ensures.kept has waits fits c.fresh.ensures.job c.in-Ok.file c.in-Ok.ensures.empty)
-    (has_same g.D.Writer.Writer g.D.Held.HeldFile.bytes c.ready.new.self c.fresh.new.job j c.fresh.ensures.job has))
+    way c.ready.ensures.kept has short fits c.fresh.ensures.job c.in-Ok.file c.in-Ok.ensures.empty)
+    (has_same g.D.Writer.Writer g.D.Held.HeldFile.bytes c.ready.new.self c.fresh.new.job j c.fresh.ensures.job has)
+    (first_same c.ready.new.self c.fresh.new.job c.fresh.ensures.job c.in-Ok-Some.next _ j
+    ((c.in-Ok-Some.ensures.answers j way.fits way.has).first c.in-Ok-Some.next c.in-Ok-Some.field-0-is)))
     (fits_taken g.D.Writer.Writer g.D.Held.HeldFile.bytes c.in-Ok.file c.fresh.new.job c.fill.new.self c.fill.new.reader.looks
     c.in-Ok-fill.ensures.takes (c.fill.ensures.fits still))
 
@@ -171,7 +183,7 @@ returns-in-Err-fill-clause-under_way g c lent =
 
 pub returns-in-Err-fill-clause-rounds : goal.returns-in-Err-fill-clause-rounds
 returns-in-Err-fill-clause-rounds g c s j way =
-    let has = (c.in-Ok-true.ensures.answers j way.fits way.has).state in
+    let has = (c.in-Ok-Some.ensures.answers j way.fits way.has).state in
     let fits =
     fits_kept g.D.Held.HeldFile.bytes c.args.job.now c.ready.new.self c.ready.new.reader.looks c.ready.ensures.kept
     (c.ready.ensures.fits way.fits)
@@ -183,7 +195,7 @@ returns-in-Err-fill-clause-rounds g c s j way =
     c.args.engine.now.disk c.fresh.new.self.disk c.args.engine.now.core c.fresh.new.self.core c.args.engine.now.merging
     c.fresh.new.self.merging
     c.args.job.now c.ready.new.self c.fresh.new.job c.fill.new.self c.args.reader.now c.ready.new.reader c.fill.new.reader
-    way c.ready.ensures.kept has (c.in-Ok-true.ensures.asked.0 c.in-Ok-true.field-0-test) fits c.fresh.ensures.job c.in-Ok.file (record {
+    way c.ready.ensures.kept has ((c.in-Ok-Some.ensures.answers j way.fits way.has).missing c.in-Ok-Some.next c.in-Ok-Some.field-0-is) fits c.fresh.ensures.job c.in-Ok.file (record {
       stands = c.in-Ok.ensures.stands (history_of s) s.store.layout;
       carries = c.in-Ok.ensures.carries (history_of s) s.store.layout;
       fits = c.in-Ok.ensures.fits (history_of s) s.store.layout;
@@ -261,14 +273,14 @@ returns-in-Err-fill-clause-as_called g c =
 
 -- ---- what is merged stays the same
 
-pub returns-in-Ok-false-clause-base : goal.returns-in-Ok-false-clause-base
-returns-in-Ok-false-clause-base g c = ap (λ j. j.base) c.ready.ensures.kept
+pub returns-in-Ok-None-clause-base : goal.returns-in-Ok-None-clause-base
+returns-in-Ok-None-clause-base g c = ap (λ j. j.base) c.ready.ensures.kept
 
-pub returns-in-Ok-false-clause-inputs : goal.returns-in-Ok-false-clause-inputs
-returns-in-Ok-false-clause-inputs g c = ap (λ j. j.inputs) c.ready.ensures.kept
+pub returns-in-Ok-None-clause-inputs : goal.returns-in-Ok-None-clause-inputs
+returns-in-Ok-None-clause-inputs g c = ap (λ j. j.inputs) c.ready.ensures.kept
 
-pub returns-in-Ok-false-clause-fits : goal.returns-in-Ok-false-clause-fits
-returns-in-Ok-false-clause-fits g c = c.ready.ensures.fits
+pub returns-in-Ok-None-clause-fits : goal.returns-in-Ok-None-clause-fits
+returns-in-Ok-None-clause-fits g c = c.ready.ensures.fits
 
 pub returns-in-Err-clause-base : goal.returns-in-Err-clause-base
 returns-in-Err-clause-base g c = ap (λ j. j.base) c.ready.ensures.kept

@@ -1,15 +1,19 @@
-use Rattle.std.proofs.Common.{◌≡◌, ℕ, Bool, List, [], ◌∷◌, Option, Some, false, ◌++◌, ap, subst, sym, ◌∙◌}
+use Rattle.std.proofs.Common.{◌≡◌, ℕ, List, [], ◌∷◌, Option, Some, ◌++◌, ap, subst, sym, ◌∙◌}
+use Rattle.std.specs.Arc.{arc_value}
 use Rattle.std.specs.Option.{ForSome}
 use Rattle.std.specs.Prelude.{IsSome}
 use Rattle.vl_compact.proofs.Making.{makes_one}
 use Rattle.vl_compact.specs.Progress.{Has, HasTaken}
+use Rattle.vl_compact.specs.Stops.{InputsReadUpTo}
+use Rattle.vl_compact.specs.laws.ReadLaws.{read_alike, read_filled}
 use Rattle.vl_compact.specs.declared.files.Synced.{Synced}
 use Rattle.vl_compact.specs.declared.job.Job.{Job}
 use Rattle.vl_disk.specs.DiskState.{File, settled}
+use Rattle.vl_table.specs.declared.body.shape.TableShape.{TableShape}
 use Rattle.vl_compact.proofs.job.Job.fill.Goals as goal
 
 pub returns-in-Ok-clause-next : goal.returns-in-Ok-clause-next
-returns-in-Ok-clause-next g c = λ j fits fresh h.
+returns-in-Ok-clause-next g c = λ j fits fresh h first.
     let W = g.W.Writer in
     let bytes = g.H.HeldFile.bytes in
     let has = g.V.Sources.has in
@@ -19,10 +23,10 @@ returns-in-Ok-clause-next g c = λ j fits fresh h.
     let filled = c.in-Ok.filled in
     let same = c.take.ensures.same
     ∙ ap (λ (s : Job g.row.V.Denot g.row.H.Denot g.row.W.Denot W). record s
-    { after = Some filled.last; made = new.made; needless = new.needless; waits = false })
+    { after = Some filled.last; made = new.made; needless = new.needless })
     c.write.ensures.same in
     subst (λ (s : Job g.row.V.Denot g.row.H.Denot g.row.W.Denot W). Has W bytes has s j) (sym same)
-    (makes_one W bytes has old j h c.requires.waits c.write.new.lent filled (c.in-Ok.ensures.fills j fits fresh h)
+    (makes_one W bytes has old j h c.write.new.lent filled (c.in-Ok.ensures.fills j fits fresh h first)
     c.in-Ok.ensures.settled
     new.made
     (subst (λ (l : List (Synced g.row.W.Denot W)). HasTaken c.write.new.lent filled l new.made.items)
@@ -38,29 +42,23 @@ returns-in-Ok-clause-takes g c =
       number = t.number ∙ c.write.ensures.number;
       made = t.made
           ∙ ap (λ (s : Job g.row.V.Denot g.row.H.Denot g.row.W.Denot W). s.made.items ++ t.table ∷ []) c.write.ensures.same;
+      last = ap (λ (s : Job g.row.V.Denot g.row.H.Denot g.row.W.Denot W). s.after) c.take.ensures.same
+          ∙ ap (λ (k : List ℕ). Some k) (c.in-Ok.ensures.ends
+          ∙ ap (λ (x : TableShape). x.footer.last) (sym (ap arc_value t.shape)));
       leavings = ap (λ (s : Job g.row.V.Denot g.row.H.Denot g.row.W.Denot W). s.leavings) c.take.ensures.same
           ∙ ap (λ (s : Job g.row.V.Denot g.row.H.Denot g.row.W.Denot W). s.leavings) c.write.ensures.same;
-      waits = ap (λ (s : Job g.row.V.Denot g.row.H.Denot g.row.W.Denot W). s.waits) c.take.ensures.same;
       ended = ap (λ (s : Job g.row.V.Denot g.row.H.Denot g.row.W.Denot W). s.ended) c.take.ensures.same
           ∙ ap (λ (s : Job g.row.V.Denot g.row.H.Denot g.row.W.Denot W). s.ended) c.write.ensures.same;
       kept = c.take.ensures.same
           ∙ ap (λ (s : Job g.row.V.Denot g.row.H.Denot g.row.W.Denot W).
-          record s { after = Some c.in-Ok.filled.last; made = c.take.new.self.made; needless = c.take.new.self.needless; waits = false })
+          record s { after = Some c.in-Ok.filled.last; made = c.take.new.self.made; needless = c.take.new.self.needless })
           c.write.ensures.same
           ∙ ap (λ (o : Option (List ℕ)). record c.args.self.now {
             after = o;
             made = c.take.new.self.made;
             needless = c.take.new.self.needless;
-            waits = false;
           })
-          (sym (ap (λ (s : Job g.row.V.Denot g.row.H.Denot g.row.W.Denot W). s.after) c.take.ensures.same))
-          ∙ ap (λ (b : Bool). record c.args.self.now {
-            after = c.take.new.self.after;
-            made = c.take.new.self.made;
-            needless = c.take.new.self.needless;
-            waits = b;
-          })
-          (sym (ap (λ (s : Job g.row.V.Denot g.row.H.Denot g.row.W.Denot W). s.waits) c.take.ensures.same));
+          (sym (ap (λ (s : Job g.row.V.Denot g.row.H.Denot g.row.W.Denot W). s.after) c.take.ensures.same));
       tells = λ told. subst (λ (w : g.row.W.Denot). IsSome (W.file w)) (sym t.writer) (c.write.ensures.tells told);
       durable = subst (λ (w : g.row.W.Denot). ForSome (W.file w) (λ (f : File). f ≡ settled f.bytes)) (sym t.writer)
           c.in-Ok.ensures.settled;
@@ -88,3 +86,30 @@ returns-in-Err-clause-cause g c =
           ∙ ap (λ (s : Job g.row.V.Denot g.row.H.Denot g.row.W.Denot W). s.leavings.items ++ c.write.new.lent ∷ []) c.write.ensures.same,
       c.in-Err.ensures.cause,
     )
+
+-- up to where its inputs were read
+
+pub returns-in-Ok-clause-whole : goal.returns-in-Ok-clause-whole
+returns-in-Ok-clause-whole g c =
+    let W = g.W.Writer in
+    subst (λ (o : Option (List ℕ)). InputsReadUpTo g.H.HeldFile.bytes c.args.self.now.after o c.args.self.now.inputs.tables.items)
+    (sym (ap (λ (s : Job g.row.V.Denot g.row.H.Denot g.row.W.Denot W). s.after) c.take.ensures.same)) c.in-Ok.ensures.whole
+
+pub returns-in-Ok-clause-read : goal.returns-in-Ok-clause-read
+returns-in-Ok-clause-read g c = λ read.
+    let W = g.W.Writer in
+    read_filled g.H.HeldFile.bytes c.args.self.now c.take.new.self c.in-Ok.filled.last
+    (ap (λ (s : Job g.row.V.Denot g.row.H.Denot g.row.W.Denot W). s.after) c.take.ensures.same)
+    (ap (λ (s : Job g.row.V.Denot g.row.H.Denot g.row.W.Denot W). s.inputs) c.take.ensures.same
+    ∙ ap (λ (s : Job g.row.V.Denot g.row.H.Denot g.row.W.Denot W). s.inputs) c.write.ensures.same)
+    (ap (λ (s : Job g.row.V.Denot g.row.H.Denot g.row.W.Denot W). s.ended) c.take.ensures.same
+    ∙ ap (λ (s : Job g.row.V.Denot g.row.H.Denot g.row.W.Denot W). s.ended) c.write.ensures.same)
+    c.requires.next.going c.in-Ok.ensures.whole read
+
+pub returns-in-Err-clause-read : goal.returns-in-Err-clause-read
+returns-in-Err-clause-read g c = λ read.
+    let W = g.W.Writer in
+    read_alike g.H.HeldFile.bytes c.args.self.now _
+    (ap (λ (s : Job g.row.V.Denot g.row.H.Denot g.row.W.Denot W). s.after) c.write.ensures.same)
+    (ap (λ (s : Job g.row.V.Denot g.row.H.Denot g.row.W.Denot W). s.inputs) c.write.ensures.same)
+    (ap (λ (s : Job g.row.V.Denot g.row.H.Denot g.row.W.Denot W). s.ended) c.write.ensures.same) read

@@ -1,8 +1,11 @@
-use Rattle.std.proofs.Common.{ap, arith, refl, sym, ℕ, ◌+◌, ◌∙◌}
+use Rattle.std.proofs.Common.{Option, ap, arith, refl, subst, sym, true, ℕ, ◌+◌, ◌≡◌, ◌∙◌}
+use Rattle.std.specs.Prelude.{IfNone}
+use Rattle.vl_compact.specs.laws.ReadLaws.{read_whole}
 use Rattle.vl_disk.specs.declared.name.Name.TheVariants.{Table}
 use Rattle.vl_engine_laws.specs.laws.Carrying.{IsWatched}
 use Rattle.vl_engine.proofs.Refusing.{all_drawn, below_none, below_one, below_then, draw_tells, drawn_above, draws_more, draws_none, fill_fails}
-use Rattle.vl_engine.proofs.Refusing.{fits_at, halted_draw, has_drawn, leaves_store, left_after, lends_more, lends_none, lends_same, memory_exit}
+use Rattle.vl_engine.proofs.Refusing.{fits_at, halted_draw, has_drawn, kept_inputs, leaves_store, left_after, left_inputs, lends_more, lends_none}
+use Rattle.vl_engine.proofs.Refusing.{lends_same, memory_exit}
 use Rattle.vl_engine.proofs.Refusing.{none_lent, read_exit, read_fails, same_after, same_base, same_inputs, step_exit, taken_base, taken_inputs}
 use Rattle.vl_engine.proofs.Refusing.{tells_then}
 use Rattle.vl_disk.specs.laws.Performing.{changed_tells}
@@ -11,9 +14,11 @@ use Rattle.vl_engine.proofs.Sure.{at_read, at_step, not_memory}
 use Rattle.vl_compact.specs.laws.SureReaders.{filled_whole, read_whole, still_sure}
 use Rattle.vl_table.specs.declared.block_reader.BlockReader.{BlockReader}
 use Rattle.vl_engine.proofs.UnderWay.{handed_in, one_more, quiet_draw, still_way, unfilled_way, unlent_way}
-use Rattle.vl_engine.proofs.Whole.{drawn_runs, fails, fits_asked, fits_roomy, fits_taken, has_all, has_same, is_fresh}
+use Rattle.vl_engine.proofs.Whole.{drawn_runs, fails, fits_asked, fits_roomy, fits_taken, has_all, is_fresh}
 use Rattle.vl_engine.proofs.Whole.{made_more, made_more_with, starts, unbegun, unfilled, unfilled_with, unlent, unlent_with}
 use Rattle.vl_steps.specs.Drawing.{lent_new}
+use Rattle.vl_steps.specs.Merging.{HasAllMerge}
+use Rattle.vl_steps.specs.laws.SameJobs.{first_same, has_same, next_same, read_same}
 use Rattle.vl_space.specs.Removing.{Removes}
 use Rattle.vl_engine_laws.specs.declared.kept.Core.{Core}
 use Rattle.vl_engine_model.specs.Decides.{no_effects}
@@ -52,23 +57,32 @@ making-init g c =
         files_never = c.in_ok-reader.ensures.files.never_fails gives;
         looks_never = c.in_ok-reader.ensures.looks.never_fails gives;
       };
+      read = λ read. read;
     }
+
+-- what it goes on with
+
+pub fill-requires-next : goal.fill-requires-next
+fill-requires-next g c =
+    next_same c.ready.new.self c.fresh.new.job c.fresh.ensures.job c.in-Some.next _ _ g.D.Held.HeldFile.bytes
+    (c.in_ok-next.ensures.next c.in-Some.next c.in-Some.is)
 
 -- all tables are made
 
-pub returns-then-not-branch-clause-handed : goal.returns-then-not-branch-clause-handed
-returns-then-not-branch-clause-handed g c =
+pub returns-in_default-clause-handed : goal.returns-in_default-clause-handed
+returns-in_default-clause-handed g c =
     handed_in g.D.Watched g.D.Writer.Writer c.making.self.disk c.making.self.core.front.halted c.making.self.merging c.making.job
-    c.ready.new.self c.making.invariant.way c.ready.ensures.kept (c.in_ok-ready.ensures.asked.1 c.if-not-branch.true)
+    c.ready.new.self c.making.invariant.way c.ready.ensures.kept (subst (λ (o : Option _). IfNone o (c.ready.new.self.ended ≡ true)) c.in_default.is c.in_ok-next.ensures.ended)
 
-pub returns-then-not-branch-clause-makes : goal.returns-then-not-branch-clause-makes
-returns-then-not-branch-clause-makes g c h x o is stands fits is_open has looks =
+pub returns-in_default-clause-makes : goal.returns-in_default-clause-makes
+returns-in_default-clause-makes g c h x o is stands fits is_open has looks =
     let m = c.making.invariant.makes h x o is stands fits is_open has looks in
     has_all g.D.Watched g.D.Writer.Writer g.D.Held.HeldFile.bytes h x o.job c.args.self.now.disk c.making.self.disk c.making.self.core
     c.making.self.merging c.making.job c.making.reader m c.making.self.core.front.halted c.ready.new.self
     (handed_in g.D.Watched g.D.Writer.Writer c.making.self.disk c.making.self.core.front.halted c.making.self.merging c.making.job
-    c.ready.new.self c.making.invariant.way c.ready.ensures.kept (c.in_ok-ready.ensures.asked.1 c.if-not-branch.true))
-    ((c.in_ok-ready.ensures.answers o.job m.fits m.has).all c.if-not-branch.true)
+    c.ready.new.self c.making.invariant.way c.ready.ensures.kept (subst (λ (o : Option _). IfNone o (c.ready.new.self.ended ≡ true)) c.in_default.is c.in_ok-next.ensures.ended))
+    (subst (λ (x : Option _). IfNone x (HasAllMerge g.D.Writer.Writer g.D.Held.HeldFile.bytes c.ready.new.self o.job)) c.in_default.is
+    (c.in_ok-next.ensures.answers o.job m.fits m.has).all)
 
 -- one more was made
 
@@ -89,7 +103,7 @@ making-preserved g c =
           let reads = fits_roomy bytes c.ready.new.self c.fresh.new.job c.ready.new.reader.looks c.fresh.ensures.job
           (fits_asked bytes c.making.job c.ready.new.self c.ready.new.reader.looks c.ready.ensures.kept (c.ready.ensures.fits m.fits)) in
           let had = has_same g.D.Writer.Writer bytes c.ready.new.self c.fresh.new.job o.job c.fresh.ensures.job
-          (c.in_ok-ready.ensures.answers o.job m.fits m.has).state in
+          (c.in_ok-next.ensures.answers o.job m.fits m.has).state in
           let empty = is_fresh g.D.Watched g.D.Writer.Writer bytes c.making.self.disk c.making.self.core h l c.in_ok-file.file
           m.stays.represents (drawn_runs c.in_ok-file.file.number l h (stood.answered (fresh.Drawn c.in_ok-file.file.number) refl).0)
           c.in_ok-file.ensures.empty in
@@ -97,7 +111,9 @@ making-preserved g c =
           c.making.self.merging c.making.job c.making.reader m c.fresh.new.self.disk c.fresh.new.self.core c.fresh.new.self.merging
           c.in_ok-file.file.number (record no_effects { calls = 1 }) stood (c.in_ok-file.ensures.carries h l m.stays.represents)
           (c.in_ok-file.ensures.fits h l m.stays.represents.stands.fronts m.stays.fits) c.fill.new.self c.fill.new.reader
-          (c.in_ok-fill.ensures.next o.job reads empty had)
+          (c.in_ok-fill.ensures.next o.job reads empty had
+          (first_same c.ready.new.self c.fresh.new.job c.fresh.ensures.job c.in-Some.next _ o.job
+          ((c.in_ok-next.ensures.answers o.job m.fits m.has).first c.in-Some.next c.in-Some.is)))
           (fits_taken bytes c.fresh.new.job c.fill.new.self c.fill.new.reader.looks g.D.Writer.Writer c.in_ok-file.file
           c.in_ok-fill.ensures.takes (c.fill.ensures.fits reads));
       removes = λ h x o is stands fits is_open has looks removes.
@@ -107,7 +123,7 @@ making-preserved g c =
           let reads = fits_roomy bytes c.ready.new.self c.fresh.new.job c.ready.new.reader.looks c.fresh.ensures.job
           (fits_asked bytes c.making.job c.ready.new.self c.ready.new.reader.looks c.ready.ensures.kept (c.ready.ensures.fits m.fits)) in
           let had = has_same g.D.Writer.Writer bytes c.ready.new.self c.fresh.new.job o.job c.fresh.ensures.job
-          (c.in_ok-ready.ensures.answers o.job m.fits m.has).state in
+          (c.in_ok-next.ensures.answers o.job m.fits m.has).state in
           let empty = is_fresh g.D.Watched g.D.Writer.Writer bytes c.making.self.disk c.making.self.core h l c.in_ok-file.file
           m.stays.represents (drawn_runs c.in_ok-file.file.number l h (stood.answered (fresh.Drawn c.in_ok-file.file.number) refl).0)
           c.in_ok-file.ensures.empty in
@@ -118,7 +134,9 @@ making-preserved g c =
           (λ (k : History) (y : Layout). Removes c.fresh.new.self.core c.fresh.new.self.removing y)
           (c.in_ok-file.ensures.removes h l m.stays.stands (λ running. (m.stays.fits.running running).numbers) kept)
           c.fill.new.self c.fill.new.reader
-          (c.in_ok-fill.ensures.next o.job reads empty had)
+          (c.in_ok-fill.ensures.next o.job reads empty had
+          (first_same c.ready.new.self c.fresh.new.job c.fresh.ensures.job c.in-Some.next _ o.job
+          ((c.in_ok-next.ensures.answers o.job m.fits m.has).first c.in-Some.next c.in-Some.is)))
           (fits_taken bytes c.fresh.new.job c.fill.new.self c.fill.new.reader.looks g.D.Writer.Writer c.in_ok-file.file
           c.in_ok-fill.ensures.takes (c.fill.ensures.fits reads));
       pins = c.fresh.ensures.pins ∙ c.making.invariant.pins;
@@ -160,6 +178,8 @@ making-preserved g c =
       sure = λ gives. still_sure (λ (l : BlockReader _). g.D.Reader.Reader.faults l.reader) g.D.Reader.Reader.faults c.ready.new.reader c.fill.new.reader c.in_ok-fill.ensures.steady
           (still_sure (λ (l : BlockReader _). g.D.Reader.Reader.faults l.reader) g.D.Reader.Reader.faults c.making.reader c.ready.new.reader c.in_ok-ready.ensures.steady
           (c.making.invariant.sure gives));
+      read = λ read. c.fill.ensures.read (read_same c.ready.new.self c.fresh.new.job c.fresh.ensures.job bytes
+          (c.ready.ensures.read (c.making.invariant.read read)));
     }
 
 -- it ends before that
@@ -170,11 +190,11 @@ returns-in_err-reader-clause-makes g c h x o is stands fits is_open has looks =
     unbegun g.D.Watched g.D.Writer.Writer g.D.Held.HeldFile.bytes h x watched c.args.self.now.disk c.args.self.now.core
     c.args.self.now.merging c.args.job.now c.from_residual.result c.from_residual.ensures.0 o is stands fits is_open
 
-pub returns-in_err-ready-clause-makes : goal.returns-in_err-ready-clause-makes
-returns-in_err-ready-clause-makes g c h x o is stands fits is_open has looks =
+pub returns-in_err-next-clause-makes : goal.returns-in_err-next-clause-makes
+returns-in_err-next-clause-makes g c h x o is stands fits is_open has looks =
     fails g.D.Watched g.D.Writer.Writer g.D.Held.HeldFile.bytes h x o.job c.args.self.now.disk c.making.self.disk c.making.self.core
     c.making.self.merging c.making.job c.making.reader (c.making.invariant.makes h x o is stands fits is_open has looks)
-    c.ready.new.self c.from_residual-in_err-ready.result c.from_residual-in_err-ready.ensures.0
+    c.ready.new.self c.from_residual-in_err-next.result c.from_residual-in_err-next.ensures.0
 
 pub returns-in_err-file-clause-makes : goal.returns-in_err-file-clause-makes
 returns-in_err-file-clause-makes g c h x o is stands fits is_open has looks =
@@ -207,17 +227,17 @@ returns-clause-makes g c h x o is stands fits is_open has looks =
 
 -- what is kept of where space comes back from
 
-pub returns-in_err-ready-clause-collecting : goal.returns-in_err-ready-clause-collecting
-returns-in_err-ready-clause-collecting g c = c.making.invariant.collecting
+pub returns-in_err-next-clause-collecting : goal.returns-in_err-next-clause-collecting
+returns-in_err-next-clause-collecting g c = c.making.invariant.collecting
 
-pub returns-in_err-ready-clause-logs : goal.returns-in_err-ready-clause-logs
-returns-in_err-ready-clause-logs g c = c.making.invariant.logs
+pub returns-in_err-next-clause-logs : goal.returns-in_err-next-clause-logs
+returns-in_err-next-clause-logs g c = c.making.invariant.logs
 
-pub returns-then-not-branch-clause-collecting : goal.returns-then-not-branch-clause-collecting
-returns-then-not-branch-clause-collecting g c = c.making.invariant.collecting
+pub returns-in_default-clause-collecting : goal.returns-in_default-clause-collecting
+returns-in_default-clause-collecting g c = c.making.invariant.collecting
 
-pub returns-then-not-branch-clause-logs : goal.returns-then-not-branch-clause-logs
-returns-then-not-branch-clause-logs g c = c.making.invariant.logs
+pub returns-in_default-clause-logs : goal.returns-in_default-clause-logs
+returns-in_default-clause-logs g c = c.making.invariant.logs
 
 pub returns-clause-collecting : goal.returns-clause-collecting
 returns-clause-collecting g c = c.making.invariant.collecting
@@ -239,13 +259,13 @@ returns-in_err-fill-clause-logs g c = c.fresh.ensures.logs ∙ c.making.invarian
 
 -- it is under way yet
 
-pub returns-in_err-ready-clause-under_way : goal.returns-in_err-ready-clause-under_way
-returns-in_err-ready-clause-under_way g c =
+pub returns-in_err-next-clause-under_way : goal.returns-in_err-next-clause-under_way
+returns-in_err-next-clause-under_way g c =
     still_way g.D.Watched g.D.Writer.Writer c.making.self.disk c.making.self.core.front.halted c.making.self.merging c.making.job
     c.ready.new.self c.making.invariant.way c.ready.ensures.kept
 
-pub returns-then-not-branch-clause-under_way : goal.returns-then-not-branch-clause-under_way
-returns-then-not-branch-clause-under_way g c =
+pub returns-in_default-clause-under_way : goal.returns-in_default-clause-under_way
+returns-in_default-clause-under_way g c =
     still_way g.D.Watched g.D.Writer.Writer c.making.self.disk c.making.self.core.front.halted c.making.self.merging c.making.job
     c.ready.new.self c.making.invariant.way c.ready.ensures.kept
 
@@ -269,15 +289,16 @@ returns-in_err-fill-clause-under_way g c =
 
 -- what is kept of which files can go
 
-pub returns-then-not-branch-clause-removes : goal.returns-then-not-branch-clause-removes
-returns-then-not-branch-clause-removes g c h x o is stands fits is_open has looks removes =
+pub returns-in_default-clause-removes : goal.returns-in_default-clause-removes
+returns-in_default-clause-removes g c h x o is stands fits is_open has looks removes =
     let (m, kept) = c.making.invariant.removes h x o is stands fits is_open has looks removes in
     record {
       makes = has_all g.D.Watched g.D.Writer.Writer g.D.Held.HeldFile.bytes h x o.job c.args.self.now.disk c.making.self.disk
           c.making.self.core c.making.self.merging c.making.job c.making.reader m c.making.self.core.front.halted c.ready.new.self
           (handed_in g.D.Watched g.D.Writer.Writer c.making.self.disk c.making.self.core.front.halted c.making.self.merging c.making.job
-          c.ready.new.self c.making.invariant.way c.ready.ensures.kept (c.in_ok-ready.ensures.asked.1 c.if-not-branch.true))
-          ((c.in_ok-ready.ensures.answers o.job m.fits m.has).all c.if-not-branch.true);
+          c.ready.new.self c.making.invariant.way c.ready.ensures.kept (subst (λ (o : Option _). IfNone o (c.ready.new.self.ended ≡ true)) c.in_default.is c.in_ok-next.ensures.ended))
+          (subst (λ (x : Option _). IfNone x (HasAllMerge g.D.Writer.Writer g.D.Held.HeldFile.bytes c.ready.new.self o.job)) c.in_default.is
+    (c.in_ok-next.ensures.answers o.job m.fits m.has).all);
       removes = kept;
     }
 
@@ -290,13 +311,13 @@ returns-in_err-reader-clause-removes g c h x o is stands fits is_open has looks 
       removes = removes;
     }
 
-pub returns-in_err-ready-clause-removes : goal.returns-in_err-ready-clause-removes
-returns-in_err-ready-clause-removes g c h x o is stands fits is_open has looks removes =
+pub returns-in_err-next-clause-removes : goal.returns-in_err-next-clause-removes
+returns-in_err-next-clause-removes g c h x o is stands fits is_open has looks removes =
     let (m, kept) = c.making.invariant.removes h x o is stands fits is_open has looks removes in
     record {
       makes = fails g.D.Watched g.D.Writer.Writer g.D.Held.HeldFile.bytes h x o.job c.args.self.now.disk c.making.self.disk
           c.making.self.core c.making.self.merging c.making.job c.making.reader m c.ready.new.self
-          c.from_residual-in_err-ready.result c.from_residual-in_err-ready.ensures.0;
+          c.from_residual-in_err-next.result c.from_residual-in_err-next.ensures.0;
       removes = kept;
     }
 
@@ -346,17 +367,17 @@ returns-in_err-reader-clause-as_made g c =
     memory_exit g.D.Writer.Writer g.D.Held.HeldFile.bytes (λ r. g.D.Reader.Reader.faults r) g.D.Watched c.args.job.now c.args.job.now.after old old
     c.from_residual.result c.from_residual.ensures.1 (has_drawn g.D.Watched old old 0 (draws_none g.D.Watched old))
 
-pub returns-in_err-ready-clause-as_made : goal.returns-in_err-ready-clause-as_made
-returns-in_err-ready-clause-as_made g c =
+pub returns-in_err-next-clause-as_made : goal.returns-in_err-next-clause-as_made
+returns-in_err-next-clause-as_made g c =
     let old = moment c.args.self.now.core c.args.self.now.merging c.args.self.now.disk in
     let mid = moment c.making.self.core c.making.self.merging c.making.self.disk in
     read_exit g.D.Writer.Writer g.D.Held.HeldFile.bytes (λ r. g.D.Reader.Reader.faults r) g.D.Watched c.args.job.now c.ready.new.self.after old mid
-    c.in_err-ready.field-0.0 c.from_residual-in_err-ready.result c.from_residual-in_err-ready.ensures.1
+    c.in_err-next.field-0.0 c.from_residual-in_err-next.result c.from_residual-in_err-next.ensures.1
     (has_drawn g.D.Watched old mid c.making.counter c.making.invariant.draws)
     (read_fails g.D.Writer.Writer g.D.Held.HeldFile.bytes (λ r. g.D.Reader.Reader.faults r) g.D.Watched c.args.job.now c.ready.new.self.after old
     (IsLastDrawn mid) c.making.job.base c.making.job.inputs c.making.job.after c.making.reader c.ready.new.reader
-    c.in_err-ready.field-0.0 c.making.invariant.base c.making.invariant.inputs
-    (sym (same_after c.making.job c.ready.new.self c.ready.ensures.kept)) c.making.invariant.looks c.in_err-ready.ensures.cause)
+    c.in_err-next.field-0.0 c.making.invariant.base c.making.invariant.inputs
+    (sym (same_after c.making.job c.ready.new.self c.ready.ensures.kept)) c.making.invariant.looks c.in_err-next.ensures.cause)
 
 pub returns-in_err-file-clause-as_made : goal.returns-in_err-file-clause-as_made
 returns-in_err-file-clause-as_made g c =
@@ -392,8 +413,8 @@ returns-in_err-fill-clause-as_made g c =
     ∙ sym (ap (λ (core : Core _). core.back.state.next_table) c.in_ok-file.ensures.core))
     c.in_err-fill.ensures.cause)
 
-pub returns-then-not-branch-clause-as_made : goal.returns-then-not-branch-clause-as_made
-returns-then-not-branch-clause-as_made g c =
+pub returns-in_default-clause-as_made : goal.returns-in_default-clause-as_made
+returns-in_default-clause-as_made g c =
     has_drawn g.D.Watched (moment c.args.self.now.core c.args.self.now.merging c.args.self.now.disk)
     (moment c.making.self.core c.making.self.merging c.making.self.disk) c.making.counter c.making.invariant.draws
 
@@ -437,8 +458,8 @@ returns-in_err-reader-clause-idle g c name is =
     let old = moment c.args.self.now.core c.args.self.now.merging c.args.self.now.disk in
     leaves_store g.D.Watched old old (refl, refl)
 
-pub returns-in_err-ready-clause-idle : goal.returns-in_err-ready-clause-idle
-returns-in_err-ready-clause-idle g c name is =
+pub returns-in_err-next-clause-idle : goal.returns-in_err-next-clause-idle
+returns-in_err-next-clause-idle g c name is =
     leaves_store g.D.Watched (moment c.args.self.now.core c.args.self.now.merging c.args.self.now.disk)
     (moment c.making.self.core c.making.self.merging c.making.self.disk) (c.making.invariant.draws.idle name is)
 
@@ -455,8 +476,8 @@ pub returns-in_err-fill-clause-idle : goal.returns-in_err-fill-clause-idle
 returns-in_err-fill-clause-idle g c name is =
     none_lent _ _ (c.in_ok-file.ensures.halted name (ap (λ (core : Core _). core.front.halted) c.making.invariant.draws.core ∙ is))
 
-pub returns-then-not-branch-clause-idle : goal.returns-then-not-branch-clause-idle
-returns-then-not-branch-clause-idle g c name is =
+pub returns-in_default-clause-idle : goal.returns-in_default-clause-idle
+returns-in_default-clause-idle g c name is =
     leaves_store g.D.Watched (moment c.args.self.now.core c.args.self.now.merging c.args.self.now.disk)
     (moment c.making.self.core c.making.self.merging c.making.self.disk) (c.making.invariant.draws.idle name is)
 
@@ -471,8 +492,8 @@ pub returns-in_err-reader-clause-files : goal.returns-in_err-reader-clause-files
 returns-in_err-reader-clause-files g c =
     below_none c.args.self.now.core.back.state.next_table (g.D.Watched.told c.args.self.now.disk) _ refl
 
-pub returns-in_err-ready-clause-files : goal.returns-in_err-ready-clause-files
-returns-in_err-ready-clause-files g c = c.making.invariant.files
+pub returns-in_err-next-clause-files : goal.returns-in_err-next-clause-files
+returns-in_err-next-clause-files g c = c.making.invariant.files
 
 pub returns-in_err-file-clause-files : goal.returns-in_err-file-clause-files
 returns-in_err-file-clause-files g c =
@@ -494,8 +515,8 @@ returns-in_err-fill-clause-files g c =
     (drawn_above c.args.self.now.core c.making.self.core c.making.counter c.making.self.core.back.state.next_table
     c.making.invariant.draws.core refl))
 
-pub returns-then-not-branch-clause-files : goal.returns-then-not-branch-clause-files
-returns-then-not-branch-clause-files g c = c.making.invariant.files
+pub returns-in_default-clause-files : goal.returns-in_default-clause-files
+returns-in_default-clause-files g c = c.making.invariant.files
 
 pub returns-clause-files : goal.returns-clause-files
 returns-clause-files g c = c.making.invariant.files
@@ -505,8 +526,8 @@ returns-clause-files g c = c.making.invariant.files
 pub returns-in_err-reader-clause-tells : goal.returns-in_err-reader-clause-tells
 returns-in_err-reader-clause-tells g c state is = (state, is)
 
-pub returns-in_err-ready-clause-tells : goal.returns-in_err-ready-clause-tells
-returns-in_err-ready-clause-tells g c = c.making.invariant.tells
+pub returns-in_err-next-clause-tells : goal.returns-in_err-next-clause-tells
+returns-in_err-next-clause-tells g c = c.making.invariant.tells
 
 pub returns-in_err-file-clause-tells : goal.returns-in_err-file-clause-tells
 returns-in_err-file-clause-tells g c =
@@ -522,8 +543,8 @@ returns-in_err-fill-clause-tells g c =
     (changed_tells (lent_new (Table c.in_ok-file.file.number)) (g.D.Watched.told c.making.self.disk)
     (g.D.Watched.told c.fresh.new.self.disk) c.in_ok-file.ensures.written)
 
-pub returns-then-not-branch-clause-tells : goal.returns-then-not-branch-clause-tells
-returns-then-not-branch-clause-tells g c = c.making.invariant.tells
+pub returns-in_default-clause-tells : goal.returns-in_default-clause-tells
+returns-in_default-clause-tells g c = c.making.invariant.tells
 
 pub returns-clause-tells : goal.returns-clause-tells
 returns-clause-tells g c = c.making.invariant.tells
@@ -533,8 +554,8 @@ returns-clause-tells g c = c.making.invariant.tells
 pub returns-in_err-reader-clause-lends : goal.returns-in_err-reader-clause-lends
 returns-in_err-reader-clause-lends g c = lends_none c.args.self.now.core.back.state.next_table c.args.self.now.merging
 
-pub returns-in_err-ready-clause-lends : goal.returns-in_err-ready-clause-lends
-returns-in_err-ready-clause-lends g c = c.making.invariant.lends
+pub returns-in_err-next-clause-lends : goal.returns-in_err-next-clause-lends
+returns-in_err-next-clause-lends g c = c.making.invariant.lends
 
 pub returns-in_err-file-clause-lends : goal.returns-in_err-file-clause-lends
 returns-in_err-file-clause-lends g c =
@@ -548,8 +569,52 @@ returns-in_err-fill-clause-lends g c =
     (drawn_above c.args.self.now.core c.making.self.core c.making.counter c.in_ok-file.file.number
     c.making.invariant.draws.core c.in_ok-file.ensures.number)
 
-pub returns-then-not-branch-clause-lends : goal.returns-then-not-branch-clause-lends
-returns-then-not-branch-clause-lends g c = c.making.invariant.lends
+pub returns-in_default-clause-lends : goal.returns-in_default-clause-lends
+returns-in_default-clause-lends g c = c.making.invariant.lends
 
 pub returns-clause-lends : goal.returns-clause-lends
 returns-clause-lends g c = c.making.invariant.lends
+
+-- up to where its inputs were read
+
+pub returns-in_err-next-clause-inputs : goal.returns-in_err-next-clause-inputs
+returns-in_err-next-clause-inputs g c = kept_inputs c.making.job c.ready.new.self c.ready.ensures.kept ∙ c.making.invariant.inputs
+
+pub returns-in_default-clause-inputs : goal.returns-in_default-clause-inputs
+returns-in_default-clause-inputs g c = kept_inputs c.making.job c.ready.new.self c.ready.ensures.kept ∙ c.making.invariant.inputs
+
+pub returns-in_err-file-clause-inputs : goal.returns-in_err-file-clause-inputs
+returns-in_err-file-clause-inputs g c =
+    same_inputs c.making.job c.ready.new.self c.fresh.new.job c.ready.ensures.kept c.fresh.ensures.job ∙ c.making.invariant.inputs
+
+pub returns-in_err-fill-clause-inputs : goal.returns-in_err-fill-clause-inputs
+returns-in_err-fill-clause-inputs g c =
+    left_inputs g.D.Writer.Writer c.in_ok-file.file c.fresh.new.job c.fill.new.self c.in_err-fill.ensures.refused
+    ∙ same_inputs c.making.job c.ready.new.self c.fresh.new.job c.ready.ensures.kept c.fresh.ensures.job ∙ c.making.invariant.inputs
+
+pub returns-clause-inputs : goal.returns-clause-inputs
+returns-clause-inputs g c = c.making.invariant.inputs
+
+pub returns-in_err-next-clause-read : goal.returns-in_err-next-clause-read
+returns-in_err-next-clause-read g c read = c.ready.ensures.read (c.making.invariant.read read)
+
+pub returns-in_default-clause-read : goal.returns-in_default-clause-read
+returns-in_default-clause-read g c read = c.ready.ensures.read (c.making.invariant.read read)
+
+pub returns-in_err-file-clause-read : goal.returns-in_err-file-clause-read
+returns-in_err-file-clause-read g c read =
+    read_same c.ready.new.self c.fresh.new.job c.fresh.ensures.job g.D.Held.HeldFile.bytes
+    (c.ready.ensures.read (c.making.invariant.read read))
+
+pub returns-in_err-fill-clause-read : goal.returns-in_err-fill-clause-read
+returns-in_err-fill-clause-read g c read =
+    c.fill.ensures.read (read_same c.ready.new.self c.fresh.new.job c.fresh.ensures.job g.D.Held.HeldFile.bytes
+    (c.ready.ensures.read (c.making.invariant.read read)))
+
+pub returns-clause-read : goal.returns-clause-read
+returns-clause-read g c = c.making.invariant.read
+
+pub returns-in_default-clause-whole : goal.returns-in_default-clause-whole
+returns-in_default-clause-whole g c read =
+    read_whole g.D.Held.HeldFile.bytes c.ready.new.self (c.ready.ensures.read (c.making.invariant.read read))
+    (subst (λ (o : Option _). IfNone o (c.ready.new.self.ended ≡ true)) c.in_default.is c.in_ok-next.ensures.ended)

@@ -1,6 +1,7 @@
 use Rattle.std.specs.Prelude.{◌≡◌, Some}
 use Rattle.vl_compact.specs.Reading.{IsSure}
 use Rattle.vl_table.specs.declared.block_reader.BlockReader.{BlockReader}
+use Rattle.vl_compact.specs.Progress.{HasRead}
 use Rattle.vl_engine.proofs.Whole.{IsMaking}
 use Rattle.vl_steps.specs.Merging.{FitsReaders, HasMerge}
 use Rattle.vl_engine_laws.specs.Lent.{StandsOpen}
@@ -49,4 +50,5 @@ invariant-making g l = record {
   gives : g.D.Watched.gives_steady l.fn.self.disk → g.D.Watched.gives_steady l.self.disk;
   sure : g.D.Watched.gives_steady l.fn.self.disk → IsSure (λ (r : BlockReader _). g.D.Reader.Reader.faults r.reader)
       g.D.Reader.Reader.faults l.reader;
+  read : HasRead g.D.Held.HeldFile.bytes l.fn.job → HasRead g.D.Held.HeldFile.bytes l.job;
 }

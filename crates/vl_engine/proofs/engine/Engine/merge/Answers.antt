@@ -2,10 +2,12 @@ use Rattle.std.specs.Option.{is_some}
 use Rattle.std.proofs.Common.{Global, Ok, Option, Some, Vec, ap, refl, subst, sym, ◌∙◌}
 use Rattle.vl_seglog.specs.declared.sealed.SealedLog.{SealedLog}
 use Rattle.vl_compact.specs.Progress.{made_of}
+use Rattle.vl_compact.specs.laws.ReadLaws.{new_read}
 use Rattle.vl_disk.specs.declared.errors.NoMemory.{NoMemory}
 use Rattle.vl_engine_laws.specs.laws.Carrying.{IsWatched}
 use Rattle.vl_engine.proofs.MergedExits.{below_install, below_same, just_unmoved, left_halted, made_above, merge_planned, merged}
-use Rattle.vl_engine.proofs.MergedExits.{never_put, none_due, one_job, put_halted, puts_in, same_drawn, unmade, unmoved, unplanned, unput}
+use Rattle.vl_engine.proofs.MergedExits.{never_put, none_due, one_job, put_halted, puts_in, read_to, same_drawn, unmade, unmoved, unplanned}
+use Rattle.vl_engine.proofs.MergedExits.{unput}
 use Rattle.vl_engine.proofs.Refusing.{below_none, below_then, leaves_store}
 use Rattle.vl_engine.specs.Refusals.{moment, moved_in}
 use Rattle.vl_engine.proofs.UnderWay.{handed_back_way, just_planned, none_open}
@@ -457,9 +459,15 @@ returns-in-Err-clause-as_merged g c =
     (moment c.abandon.new.self.core c.abandon.new.self.merging c.abandon.new.self.disk) c.in-Some.job c.carry_out.new.job.after
     (record { core = c.plan.ensures.core; disk = c.plan.ensures.disk })
     (record { core = c.abandon.ensures.core; disk = c.abandon.ensures.disk })
-    (c.in_ok-job.ensures.base c.in-Some.job c.in-Some.is)
-    (λ h l stands. merge_planned g.D.Writer.Writer g.D.Held.HeldFile.bytes c.in-Some.job c.in_ok-job.field-0
-    (plan_ruling l h).answer c.in-Some.is (c.in_ok-job.ensures.job h l stands)) c.in-Err.fail c.in-Err.ensures.as_made
+    (record {
+      version = c.in_ok-job.ensures.base c.in-Some.job c.in-Some.is;
+      planned = λ h l stands. merge_planned g.D.Writer.Writer g.D.Held.HeldFile.bytes c.in-Some.job c.in_ok-job.field-0
+          (plan_ruling l h).answer c.in-Some.is (c.in_ok-job.ensures.job h l stands);
+    })
+    (read_to g.D.Watched g.D.Writer.Writer g.D.Held.HeldFile.bytes (λ r. g.D.Reader.Reader.faults r)
+    (moment c.args.self.now.core c.args.self.now.merging c.args.self.now.disk) c.in-Some.job c.carry_out.new.job c.carry_out.ensures.inputs
+    (c.carry_out.ensures.read (new_read g.D.Held.HeldFile.bytes c.in-Some.job (c.in_ok-job.ensures.new c.in-Some.job c.in-Some.is))))
+    c.in-Err.fail c.in-Err.ensures.as_made
 
 pub returns-in-Ok-clause-as_merged : goal.returns-in-Ok-clause-as_merged
 returns-in-Ok-clause-as_merged g c =
@@ -467,8 +475,17 @@ returns-in-Ok-clause-as_merged g c =
     (moment c.args.self.now.core c.args.self.now.merging c.args.self.now.disk)
     (moment c.plan.new.self.core c.plan.new.self.merging c.plan.new.self.disk)
     (moment c.carry_out.new.self.core c.carry_out.new.self.merging c.carry_out.new.self.disk)
-    (moment c.install.new.self.core c.install.new.self.merging c.install.new.self.disk) c.carry_out.new.job
-    (record { core = c.plan.ensures.core; disk = c.plan.ensures.disk }) c.in_default-carry_out.ensures.as_made c.in-Ok.ensures.core
+    (moment c.install.new.self.core c.install.new.self.merging c.install.new.self.disk) c.in-Some.job c.carry_out.new.job
+    (record { core = c.plan.ensures.core; disk = c.plan.ensures.disk })
+    (record {
+      version = c.in_ok-job.ensures.base c.in-Some.job c.in-Some.is;
+      planned = λ h l stands. merge_planned g.D.Writer.Writer g.D.Held.HeldFile.bytes c.in-Some.job c.in_ok-job.field-0
+          (plan_ruling l h).answer c.in-Some.is (c.in_ok-job.ensures.job h l stands);
+    })
+    c.carry_out.ensures.inputs
+    (c.in_default-carry_out.ensures.whole
+    (new_read g.D.Held.HeldFile.bytes c.in-Some.job (c.in_ok-job.ensures.new c.in-Some.job c.in-Some.is)))
+    c.in_default-carry_out.ensures.as_made c.in-Ok.ensures.core
     c.in-Ok.ensures.written c.in-Ok.ensures.calls c.in-Ok.ensures.cause
 
 pub returns-in-Err-install-clause-as_merged : goal.returns-in-Err-install-clause-as_merged

@@ -1,4 +1,5 @@
 use Rattle.std.specs.Prelude.{◌≡◌, ◌+◌, ◌≤◌, length, true}
+use Rattle.vl_compact.specs.Progress.{HasRead}
 use Rattle.vl_version.specs.Bases as bases
 use Rattle.vlstore.specs.Handing.{IsUnderWayIn}
 use Rattle.vlstore.specs.Knowing.{GoesOn}
@@ -14,4 +15,5 @@ invariant-making g l = record {
   base : l.job.base ≡ l.fn.job.base;
   inputs : l.job.inputs ≡ l.fn.job.inputs;
   fits : l.self.tells ≡ true → bases.Fits g.D.Held.HeldFile.bytes l.job.base.version l.reader.looks;
+  read : HasRead g.D.Held.HeldFile.bytes l.fn.job → HasRead g.D.Held.HeldFile.bytes l.job;
 }

@@ -2,6 +2,7 @@ use Rattle.std.proofs.Common.{◌≡◌, refl, sym, ◌∙◌, subst}
 use Rattle.std.specs.Prelude.{length, min, ◌^◌, ◌-◌, Option, Some, Ok, Err}
 use Rattle.vl_compact.specs.Laid.{AreBoth}
 use Rattle.vl_compact.specs.Progress.{made_of}
+use Rattle.vl_compact.specs.laws.ReadLaws.{new_read}
 use Rattle.vl_disk.specs.declared.errors.NoMemory.{NoMemory}
 use Rattle.vl_steps.specs.Merging.{HasMerge, install_outcome, plan_outcome}
 use Rattle.vl_engine_model.specs.Decides.{Answered}
@@ -18,7 +19,7 @@ use Rattle.vlstore.proofs.Making.{given_back, on_and_on}
 use Rattle.vlstore.proofs.Merged.{abandon_works, did_on, did_work, install_ends, install_works, job_ended, none_due, none_own, one_due}
 use Rattle.vlstore.proofs.Merged.{own_back, own_stays, plan_works}
 use Rattle.vlstore.proofs.Merged.{planned_own, planned_some, prefix_itself, same_own, stepped_so, was_put_in}
-use Rattle.vlstore.proofs.Refused.{answered_in, goes_nowhere, unmade, unplanned, unput, wider}
+use Rattle.vlstore.proofs.Refused.{answered_in, goes_nowhere, read_all, read_to, unmade, unplanned, unput, wider}
 use Rattle.vlstore.proofs.Stores.{prefix_on}
 use Rattle.vlstore.specs.Refused.{Between}
 use Rattle.vl_engine_model.specs.declared.layout.Layout.{Layout}
@@ -230,6 +231,8 @@ returns-in-Err-clause-refused g c told =
           (subst (λ (o : Option _). AreBoth fits o s.0) c.in-Some.is s.2);
       looks = c.in_ok-job.ensures.looks told c.in-Some.job c.in-Some.is;
     })
+    (read_to sure g.D.Writer.Writer bytes (λ r. g.D.Reader.Reader.faults r) c.in-Some.job c.carry_out.new.job c.carry_out.ensures.inputs
+    (c.carry_out.ensures.read (new_read bytes c.in-Some.job (c.in_ok-job.ensures.new c.in-Some.job c.in-Some.is))))
     c.in-Err.fail (c.in-Err.ensures.refused (c.plan.ensures.on.tells ∙ told))
 
 pub returns-in-Err-install-clause-refused : goal.returns-in-Err-install-clause-refused
@@ -260,3 +263,29 @@ returns-in-Err-install-clause-refused g c told =
     c.in-Err-install.fail
     (c.in-Err-install.ensures.steps (c.carry_out.ensures.on.tells ∙ told_then) handed.under_way.planned handed.under_way.own)
     c.abandoned.result c.abandoned.ensures.refusal
+
+-- ---- up to where its inputs were read
+
+pub returns-in-Ok-clause-read : goal.returns-in-Ok-clause-read
+returns-in-Ok-clause-read g c told =
+    let bytes = g.D.Held.HeldFile.bytes in
+    let sure = NeverFails g.D.Watched.faults g.D.Reader.Reader.faults g.D.Writer.Writer.faults in
+    let s = c.in_ok-job.ensures.steps told in
+    let u = c.args.self.now in
+    let v = c.plan.new.self in
+    let fits = HasMerge g.D.Writer.Writer bytes in
+    let some = planned_some fits c.in-Some.job s.0 (subst (λ (o : Option _). AreBoth fits o s.0) c.in-Some.is s.2) in
+    let step = subst (λ (p : Option Job). Stepped sure u v (λ l h. plan_ruling l h) plan_entry (Answered p)) some.1
+    (subst (λ (o : Option _). Stepped sure u v (λ l h. plan_ruling l h) plan_entry (plan_outcome {E = NoMemory} s.0 (Ok o)))
+    c.in-Some.is s.1) in
+    read_all sure g.D.Writer.Writer bytes (λ r. g.D.Reader.Reader.faults r) u v c.install.new.self c.in-Some.job c.carry_out.new.job
+    (on_and_on v c.carry_out.new.self c.install.new.self c.carry_out.ensures.on c.install.ensures.on)
+    (record {
+      planned = some.0;
+      due = answered_in u v (λ l h. plan_ruling l h) plan_entry (Some some.0) step;
+      has = subst (λ (p : Option Job). AreBoth fits (Some c.in-Some.job) p) some.1
+          (subst (λ (o : Option _). AreBoth fits o s.0) c.in-Some.is s.2);
+      looks = c.in_ok-job.ensures.looks told c.in-Some.job c.in-Some.is;
+    })
+    c.carry_out.ensures.inputs
+    (c.in_default-carry_out.ensures.whole (new_read bytes c.in-Some.job (c.in_ok-job.ensures.new c.in-Some.job c.in-Some.is)))

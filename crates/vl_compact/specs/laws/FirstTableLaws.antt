@@ -17,30 +17,11 @@ use Rattle.vl_model.specs.declared.entry.Entry.{Entry}
 use Rattle.vl_model.specs.laws.WinnerLaws.{key_tied}
 use Rattle.vl_model.specs.EntryOrder.{IsInOrder}
 use Rattle.vl_model.specs.laws.OrderLaws.{all-append, IsBefore, IsRising, rising}
+use Rattle.vl_compact.specs.FirstTable.{closes, first_table, frames_length, table_and_rest}
 use Rattle.vl_compact.specs.Walking.{is_behind}
 use Rattle.vl_compact.specs.laws.BehindLaws.{behind_later, filter-all, is_less}
 use Rattle.vl_compact.specs.laws.Counted.{less_parts}
 use Rattle.vl_compact.specs.laws.Repeats.{true_false}
-
--- ---- the first table
-
--- the lengths of the block frames of a table with these entries, added up
-abbrev pub frames_length : List Entry → ℕ
-frames_length table = sum_by (block_frame_length table_format) (blocks table_format table)
-
--- an entry of a new key closes the table where its block frames have reached the measure of a full table
-abbrev pub closes : List Entry → Entry → Bool
-closes table e = not (eq_by_cmp key_cmp (last_key table) e.key) && nat_le full_table_bytes (frames_length table)
-
--- the table that begins with these, which are closed before the first of the others that closes it, and the rest
-abbrev pub table_and_rest : List Entry → List Entry → List Entry × List Entry
-table_and_rest table [] = (table, [])
-table_and_rest table (e ∷ es) = cond (closes table e) (table, e ∷ es) (table_and_rest (table ++ e ∷ []) es)
-
--- the first table of some entries, and the rest
-abbrev pub first_table : List Entry → List Entry × List Entry
-first_table [] = ([], [])
-first_table (e ∷ es) = table_and_rest (e ∷ []) es
 
 -- ---- frames of a table that grows
 
