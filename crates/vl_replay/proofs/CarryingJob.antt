@@ -17,7 +17,7 @@ use Rattle.vl_compact.specs.Stops.{MayStopIn}
 use Rattle.vl_compact.specs.declared.files.Lent.{Lent}
 use Rattle.vl_compact.specs.declared.files.Synced.{Synced}
 use Rattle.vl_compact.specs.declared.job.Job.{Job as TheJob}
-use Rattle.vl_compact.specs.laws.SureReaders.{filled_whole, read_whole}
+use Rattle.vl_compact.specs.laws.SureReaders.{filled_surely, read_surely}
 use Rattle.vl_compact.specs.declared.job_reader.JobReader.{JobReader}
 use Rattle.vl_disk.specs.Calls.{ChangesNothing}
 use Rattle.vl_disk.specs.DiskState.{new_file}
@@ -230,7 +230,7 @@ module _ {R W : Type 0} (reads : R → ℕ) (writers : Writers W) (old new : Job
         → FailsReading is_disk_fault may is_disk_fault their its fault → HaltsByReader {T = T} (Err (halt_by fault)) → ⊥
     reading_sure T may their NoMemory fails by = by
     reading_sure T may their (Disk name) fails by =
-        read_whole (λ (l : BlockReader R). reads l.reader) reads may their old new sure (Disk name) name fails refl
+        read_surely (λ (l : BlockReader R). reads l.reader) reads may their old new sure (Disk name) name fails refl
     reading_sure T may their (Damaged name place) fails by = by
 
     pub filling_sure : (T : Type 0) {V H : Type 0} (may their : ReadFault → Type 0) {g : _} (file : Lent W g)
@@ -239,7 +239,7 @@ module _ {R W : Type 0} (reads : R → ℕ) (writers : Writers W) (old new : Job
         → HaltsByReader {T = T} (Err (halt_by fault)) → ⊥
     filling_sure T may their file first last NoMemory writes fails by = by
     filling_sure T may their file first last (Disk name) writes fails by =
-        filled_whole (λ (l : BlockReader R). reads l.reader) reads may their old new sure writers file first last (Disk name) name
+        filled_surely (λ (l : BlockReader R). reads l.reader) reads may their old new sure writers file first last (Disk name) name
         writes fails refl
     filling_sure T may their file first last (Damaged name place) writes fails by = by
 

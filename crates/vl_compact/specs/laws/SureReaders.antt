@@ -45,18 +45,18 @@ module _ {L R : Type 0} (sources : L → ℕ) (files : R → ℕ) where
         fails
 
     -- and none fails to read,
-    pub read_whole : (fault : ReadFault) (name : Name) → FailsReading is_disk_fault may is_disk_fault their its fault
+    pub read_surely : (fault : ReadFault) (name : Name) → FailsReading is_disk_fault may is_disk_fault their its fault
         → fault ≡ Disk name → ⊥
-    read_whole fault name fails is = no_read name
+    read_surely fault name fails is = no_read name
         (subst (λ (f : ReadFault). FailsReading is_disk_fault may is_disk_fault their its f) is fails)
 
     -- nor to write what it was lent
-    pub filled_whole : {V H W : Type 0} (w : Ghosts W) {g : _} (file : Lent W g) (first last : Job V H W g) (fault : ReadFault)
+    pub filled_surely : {V H W : Type 0} (w : Ghosts W) {g : _} (file : Lent W g) (first last : Job V H W g) (fault : ReadFault)
         (name : Name) → w.faults file.writer ≡ never
         → FailsWith w (FailsReading is_disk_fault may is_disk_fault their) its file first last fault → fault ≡ Disk name → ⊥
-    filled_whole w file first last fault name writes (leaving, left, fails) is = ⊎_elim
+    filled_surely w file first last fault name writes (leaving, left, fails) is = ⊎_elim
         (λ (unread : FailsReading is_disk_fault may is_disk_fault their its fault × IsSteady w file leaving).
-        read_whole fault name unread.0 is)
+        read_surely fault name unread.0 is)
         (λ (wrote : FailsWriting w file leaving fault × NoneRose its). ⊎_elim
         (λ (out : Wanted w file leaving fault). let want = out.is in disk_memory name (sym is ∙ want))
         (λ (failed : HasFailed w file leaving fault).

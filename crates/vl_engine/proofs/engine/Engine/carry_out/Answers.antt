@@ -1,6 +1,5 @@
 use Rattle.std.proofs.Common.{Option, ap, arith, refl, subst, sym, true, ℕ, ◌+◌, ◌≡◌, ◌∙◌}
 use Rattle.std.specs.Prelude.{IfNone}
-use Rattle.vl_compact.specs.laws.ReadLaws.{read_whole}
 use Rattle.vl_disk.specs.declared.name.Name.TheVariants.{Table}
 use Rattle.vl_engine_laws.specs.laws.Carrying.{IsWatched}
 use Rattle.vl_engine.proofs.Refusing.{all_drawn, below_none, below_one, below_then, draw_tells, drawn_above, draws_more, draws_none, fill_fails}
@@ -11,7 +10,8 @@ use Rattle.vl_engine.proofs.Refusing.{tells_then}
 use Rattle.vl_disk.specs.laws.Performing.{changed_tells}
 use Rattle.vl_engine.specs.Refusals.{IsLastDrawn, moment}
 use Rattle.vl_engine.proofs.Sure.{at_read, at_step, not_memory}
-use Rattle.vl_compact.specs.laws.SureReaders.{filled_whole, read_whole, still_sure}
+use Rattle.vl_compact.specs.laws.ReadLaws.{read_whole}
+use Rattle.vl_compact.specs.laws.SureReaders.{filled_surely, read_surely, still_sure}
 use Rattle.vl_table.specs.declared.block_reader.BlockReader.{BlockReader}
 use Rattle.vl_engine.proofs.UnderWay.{handed_in, one_more, quiet_draw, still_way, unfilled_way, unlent_way}
 use Rattle.vl_engine.proofs.Whole.{drawn_runs, fails, fits_asked, fits_roomy, fits_taken, has_all, is_fresh}
@@ -176,7 +176,7 @@ making-preserved g c =
           (sym c.making.invariant.base) (c.making.invariant.looks readers))))));
       gives = λ gives. c.fresh.ensures.steady (c.making.invariant.gives gives);
       sure = λ gives. still_sure (λ (l : BlockReader _). g.D.Reader.Reader.faults l.reader) g.D.Reader.Reader.faults c.ready.new.reader c.fill.new.reader c.in_ok-fill.ensures.steady
-          (still_sure (λ (l : BlockReader _). g.D.Reader.Reader.faults l.reader) g.D.Reader.Reader.faults c.making.reader c.ready.new.reader c.in_ok-ready.ensures.steady
+          (still_sure (λ (l : BlockReader _). g.D.Reader.Reader.faults l.reader) g.D.Reader.Reader.faults c.making.reader c.ready.new.reader c.in_ok-next.ensures.steady
           (c.making.invariant.sure gives));
       read = λ read. c.fill.ensures.read (read_same c.ready.new.self c.fresh.new.job c.fresh.ensures.job bytes
           (c.ready.ensures.read (c.making.invariant.read read)));
@@ -431,11 +431,11 @@ returns-clause-as_made g c =
 pub returns-in_err-reader-clause-sure : goal.returns-in_err-reader-clause-sure
 returns-in_err-reader-clause-sure g c name gives at = absurd (not_memory c.from_residual.result name c.from_residual.ensures.1 at)
 
-pub returns-in_err-ready-clause-sure : goal.returns-in_err-ready-clause-sure
-returns-in_err-ready-clause-sure g c name gives at =
-    absurd (read_whole (λ (l : BlockReader _). g.D.Reader.Reader.faults l.reader) g.D.Reader.Reader.faults _ _ c.making.reader
-    c.ready.new.reader (c.making.invariant.sure gives) c.in_err-ready.field-0.0 name c.in_err-ready.ensures.cause
-    (at_read c.in_err-ready.field-0.0 c.from_residual-in_err-ready.result name c.from_residual-in_err-ready.ensures.1 at))
+pub returns-in_err-next-clause-sure : goal.returns-in_err-next-clause-sure
+returns-in_err-next-clause-sure g c name gives at =
+    absurd (read_surely (λ (l : BlockReader _). g.D.Reader.Reader.faults l.reader) g.D.Reader.Reader.faults _ _ c.making.reader
+    c.ready.new.reader (c.making.invariant.sure gives) c.in_err-next.field-0.0 name c.in_err-next.ensures.cause
+    (at_read c.in_err-next.field-0.0 c.from_residual-in_err-next.result name c.from_residual-in_err-next.ensures.1 at))
 
 pub returns-in_err-file-clause-sure : goal.returns-in_err-file-clause-sure
 returns-in_err-file-clause-sure g c name gives at =
@@ -445,8 +445,8 @@ returns-in_err-file-clause-sure g c name gives at =
 pub returns-in_err-fill-clause-sure : goal.returns-in_err-fill-clause-sure
 returns-in_err-fill-clause-sure g c name gives at =
     let sure = c.making.invariant.sure gives in
-    absurd (filled_whole (λ (l : BlockReader _). g.D.Reader.Reader.faults l.reader) g.D.Reader.Reader.faults _ _ c.ready.new.reader
-    c.fill.new.reader (still_sure (λ (l : BlockReader _). g.D.Reader.Reader.faults l.reader) g.D.Reader.Reader.faults c.making.reader c.ready.new.reader c.in_ok-ready.ensures.steady sure)
+    absurd (filled_surely (λ (l : BlockReader _). g.D.Reader.Reader.faults l.reader) g.D.Reader.Reader.faults _ _ c.ready.new.reader
+    c.fill.new.reader (still_sure (λ (l : BlockReader _). g.D.Reader.Reader.faults l.reader) g.D.Reader.Reader.faults c.making.reader c.ready.new.reader c.in_ok-next.ensures.steady sure)
     g.D.Writer.Writer c.in_ok-file.file c.fresh.new.job c.fill.new.self c.in_err-fill.field-0.0 name
     (c.in_ok-file.ensures.writer.never_fails (c.making.invariant.gives gives)) c.in_err-fill.ensures.cause
     (at_read c.in_err-fill.field-0.0 c.from_residual-in_err-fill.result name c.from_residual-in_err-fill.ensures.1 at))
