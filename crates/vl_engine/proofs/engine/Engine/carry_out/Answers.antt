@@ -175,8 +175,10 @@ making-preserved g c =
           (c.ready.ensures.fits (fits_at g.D.Held.HeldFile.bytes c.args.job.now.base c.making.job.base c.making.reader.looks
           (sym c.making.invariant.base) (c.making.invariant.looks readers))))));
       gives = λ gives. c.fresh.ensures.steady (c.making.invariant.gives gives);
-      sure = λ gives. still_sure (λ (l : BlockReader _). g.D.Reader.Reader.faults l.reader) g.D.Reader.Reader.faults c.ready.new.reader c.fill.new.reader c.in_ok-fill.ensures.steady
-          (still_sure (λ (l : BlockReader _). g.D.Reader.Reader.faults l.reader) g.D.Reader.Reader.faults c.making.reader c.ready.new.reader c.in_ok-next.ensures.steady
+      sure = λ gives.
+          let faults = g.D.Reader.Reader.faults in
+          still_sure (λ (l : BlockReader _). faults l.reader) faults c.ready.new.reader c.fill.new.reader c.in_ok-fill.ensures.steady
+          (still_sure (λ (l : BlockReader _). faults l.reader) faults c.making.reader c.ready.new.reader c.in_ok-next.ensures.steady
           (c.making.invariant.sure gives));
       read = λ read. c.fill.ensures.read (read_same c.ready.new.self c.fresh.new.job c.fresh.ensures.job bytes
           (c.ready.ensures.read (c.making.invariant.read read)));
@@ -444,10 +446,10 @@ returns-in_err-file-clause-sure g c name gives at =
 
 pub returns-in_err-fill-clause-sure : goal.returns-in_err-fill-clause-sure
 returns-in_err-fill-clause-sure g c name gives at =
-    let sure = c.making.invariant.sure gives in
-    absurd (filled_surely (λ (l : BlockReader _). g.D.Reader.Reader.faults l.reader) g.D.Reader.Reader.faults _ _ c.ready.new.reader
-    c.fill.new.reader (still_sure (λ (l : BlockReader _). g.D.Reader.Reader.faults l.reader) g.D.Reader.Reader.faults c.making.reader c.ready.new.reader c.in_ok-next.ensures.steady sure)
-    g.D.Writer.Writer c.in_ok-file.file c.fresh.new.job c.fill.new.self c.in_err-fill.field-0.0 name
+    let faults = g.D.Reader.Reader.faults in
+    absurd (filled_surely (λ (l : BlockReader _). faults l.reader) faults _ _ c.ready.new.reader c.fill.new.reader
+    (still_sure (λ (l : BlockReader _). faults l.reader) faults c.making.reader c.ready.new.reader c.in_ok-next.ensures.steady
+    (c.making.invariant.sure gives)) g.D.Writer.Writer c.in_ok-file.file c.fresh.new.job c.fill.new.self c.in_err-fill.field-0.0 name
     (c.in_ok-file.ensures.writer.never_fails (c.making.invariant.gives gives)) c.in_err-fill.ensures.cause
     (at_read c.in_err-fill.field-0.0 c.from_residual-in_err-fill.result name c.from_residual-in_err-fill.ensures.1 at))
 
