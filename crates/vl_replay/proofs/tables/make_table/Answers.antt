@@ -8,7 +8,8 @@ use Rattle.vl_steps.specs.Merging.{HasAllMerge}
 use Rattle.vl_steps.specs.laws.SameJobs.{first_same, has_same, next_same}
 use Rattle.vl_replay.specs.Rounds.{halt_by}
 use Rattle.vl_replay.specs.declared.tables.Round.{Round}
-use Rattle.vl_replay.proofs.CarryingJob.{filling_failed, filling_sure, fits_kept, fits_same, fits_taken, has_same, left_under_way, lent_under_way, one_lent, reading_failed, reading_sure, refused_under_way, sound_filling, sound_reading, still_lent}
+use Rattle.vl_replay.proofs.CarryingJob.{filling_failed, filling_sure, fits_kept, fits_same, fits_taken, left_under_way, lent_under_way}
+use Rattle.vl_replay.proofs.CarryingJob.{one_lent, reading_failed, reading_sure, refused_under_way, sound_filling, sound_reading, still_lent}
 use Rattle.vl_replay.proofs.CarryingJob.{unlent_tells}
 use Rattle.vl_replay.proofs.CarryingRounds.{ended, filled, is_fresh, unfilled, unlent, unread}
 use Rattle.vl_space.specs.Removing.{Removes}
@@ -219,7 +220,7 @@ returns-in-Err-fill-clause-fault g c running by = record {
       c.fill.new.self c.in-Err-fill.fault c.in-Err-fill.ensures.cause (rw c.halt_at-in-Err-fill.ensures at by);
   not_so = λ sure. filling_sure g.D.Reader.Reader.faults g.D.Writer.Writer c.ready.new.reader c.fill.new.reader
       (still_sure (λ (l : BlockReader _). g.D.Reader.Reader.faults l.reader) g.D.Reader.Reader.faults c.args.reader.now
-      c.ready.new.reader c.in-Ok-true.ensures.steady sure.reads) Round _ _ c.in-Ok.file c.fresh.new.job c.fill.new.self
+      c.ready.new.reader c.in-Ok-Some.ensures.steady sure.reads) Round _ _ c.in-Ok.file c.fresh.new.job c.fill.new.self
       c.in-Err-fill.fault (c.in-Ok.ensures.writer.never_fails sure.gives) c.in-Err-fill.ensures.cause
       (rw c.halt_at-in-Err-fill.ensures at by);
 }
@@ -336,5 +337,5 @@ returns-in-Ok-fill-clause-sure g c sure made = record {
   reads = still_sure (λ (l : BlockReader _). g.D.Reader.Reader.faults l.reader) g.D.Reader.Reader.faults c.ready.new.reader
       c.fill.new.reader c.in-Ok-fill.ensures.steady
       (still_sure (λ (l : BlockReader _). g.D.Reader.Reader.faults l.reader) g.D.Reader.Reader.faults c.args.reader.now
-      c.ready.new.reader c.in-Ok-true.ensures.steady sure.reads);
+      c.ready.new.reader c.in-Ok-Some.ensures.steady sure.reads);
 }
