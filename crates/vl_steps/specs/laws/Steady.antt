@@ -1,5 +1,5 @@
 -- What a disk gives never fails behind a call either, where that was so before.
-use Rattle.std.specs.Prelude.{ℕ, zero, suc, List, Option, None, Some, Result, Ok, Err}
+use Rattle.std.specs.Prelude.{◌≡◌, ℕ, zero, suc, List, Option, None, Some, Result, Ok, Err}
 use Rattle.std.proofs.Common.{⊎_elim, subst, sym}
 use Rattle.vl_compact.specs.declared.job.Job.{Job}
 use Rattle.vl_disk.specs.declared.watched.Watched.{Ghosts}
