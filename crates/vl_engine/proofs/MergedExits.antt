@@ -144,7 +144,7 @@ module _ {D H R W : Type 0} (g : Ghosts D) (w : Writers W) (bytes : H → Option
   pub unmade : (p mid new : Moment D H) (job : Job (Base H R) H W w) (key : Option (List ℕ)) → IsSame old p → IsSame mid new
       → IsDueIn g w bytes faults_of old job → InputsReadOn bytes None key job.inputs.tables.items
       → (fail : MergeFail) → CarriesOutAs w bytes faults_of g job key p mid (Err fail) → MergesAs g w bytes faults_of old new (Err fail)
-  unmade p mid new job key one two due read fail so = by fail so
+  unmade p mid new job key one two due up_to fail so = by fail so
     where
       fails_so : (fault : ReadFault) → HasDrawn g p mid → FailsToMake w bytes faults_of job key (IsLastDrawn mid) fault
           → FailsMerging g w bytes faults_of old new fault
@@ -153,7 +153,7 @@ module _ {D H R W : Type 0} (g : Ghosts D) (w : Writers W) (bytes : H → Option
         job = job;
         due = due;
         key = key;
-        read = read;
+        read = up_to;
         fails = subst (λ (c : Core H). FailsToMake w bytes faults_of job key (λ n. n + 1 ≡ c.back.state.next_table) fault) (sym two.core) fails;
       }
 

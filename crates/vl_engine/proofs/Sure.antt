@@ -28,23 +28,23 @@ at_read (read.Disk other) (Err e) name is at = cc
 at_read (read.Damaged other place) (Err e) name is at = absurd cc
 
 -- the next table's file wasn't made
-pub at_step : {T A : Type 0} (before mid now : ℕ) (why : StepFail) (result : Result T MergeFail) (name : Name) → mid ≡ before
-    → HasCause mid now (StepFailed {T = A} (Err why)) → IsErrAnd result (λ e. e ≡ of_step why) → result ≡ Err (merge.Disk name)
+pub at_step : {T : Type 0} (A : Type 0) (before mid now : ℕ) (why : StepFail) (result : Result T MergeFail) (name : Name)
+    → mid ≡ before → HasCause mid now (StepFailed {T = A} (Err why)) → IsErrAnd result (λ e. e ≡ of_step why) → result ≡ Err (merge.Disk name)
     → Rose before now
-at_step before mid now why (Ok done) name same cause is at = absurd is
-at_step before mid now (step.Halted other) (Err e) name same cause is at = absurd cc
-at_step before mid now (step.Exhausted counter) (Err e) name same cause is at = absurd cc
-at_step before mid now step.NoMemory (Err e) name same cause is at = absurd cc
-at_step before mid now (step.Disk other) (Err e) name same cause is at = subst (λ (n : ℕ). Rose n now) same (cause.rose tt)
+at_step A before mid now why (Ok done) name same cause is at = absurd is
+at_step A before mid now (step.Halted other) (Err e) name same cause is at = absurd cc
+at_step A before mid now (step.Exhausted counter) (Err e) name same cause is at = absurd cc
+at_step A before mid now step.NoMemory (Err e) name same cause is at = absurd cc
+at_step A before mid now (step.Disk other) (Err e) name same cause is at = subst (λ (n : ℕ). Rose n now) same (cause.rose tt)
 
 -- the tables weren't put in
-pub at_install : {T V H W : Type 0} {s : _} (before mid now : ℕ) (why : InstallFail V H W s) (fail : MergeFail) (name : Name) → mid ≡ before
-    → HasCause mid now (InstallFailed {T = T} (Err why)) → fail ≡ of_install why → fail ≡ merge.Disk name → Rose before now
+pub at_install : {V H W : Type 0} {s : _} (before mid now : ℕ) (why : InstallFail V H W s) (fail : MergeFail) (name : Name)
+    → mid ≡ before → HasCause mid now (InstallFailed (Err why)) → fail ≡ of_install why → fail ≡ merge.Disk name → Rose before now
 at_install before mid now (install.Halted other) fail name same cause is at = absurd cc
 at_install before mid now (install.Raced key number) fail name same cause is at = absurd cc
 at_install before mid now (install.Exhausted counter) fail name same cause is at = absurd cc
 at_install before mid now (install.NoMemory job) fail name same cause is at = absurd cc
 at_install before mid now (install.Disk other) fail name same cause is at = subst (λ (n : ℕ). Rose n now) same (cause.rose tt)
 
-pub err_same : {T : Type 0} (a b : MergeFail) → Err {T = T} a ≡ Err b → a ≡ b
-err_same a b e = cc
+pub err_same : {T : Type 0} (result : Result T MergeFail) (a b : MergeFail) → result ≡ Err a → result ≡ Err b → a ≡ b
+err_same result a b is at = cc

@@ -46,8 +46,8 @@ returns-in-Ok-None-clause-under_way g c lent =
 
 -- ---- it goes on with what it found
 
-pub fill-requires-next : goal.fill-requires-next
-fill-requires-next g c =
+pub fill-requires-clause-next : goal.fill-requires-clause-next
+fill-requires-clause-next g c =
     next_same c.ready.new.self c.fresh.new.job c.fresh.ensures.job c.in-Ok-Some.next _ _ g.D.Held.HeldFile.bytes
     (c.in-Ok-Some.ensures.next c.in-Ok-Some.next c.in-Ok-Some.field-0-is)
 

@@ -62,8 +62,8 @@ making-init g c =
 
 -- what it goes on with
 
-pub fill-requires-next : goal.fill-requires-next
-fill-requires-next g c =
+pub fill-requires-clause-next : goal.fill-requires-clause-next
+fill-requires-clause-next g c =
     next_same c.ready.new.self c.fresh.new.job c.fresh.ensures.job c.in-Some.next _ _ g.D.Held.HeldFile.bytes
     (c.in_ok-next.ensures.next c.in-Some.next c.in-Some.is)
 
@@ -441,7 +441,7 @@ returns-in_err-next-clause-sure g c name gives at =
 
 pub returns-in_err-file-clause-sure : goal.returns-in_err-file-clause-sure
 returns-in_err-file-clause-sure g c name gives at =
-    at_step _ _ _ c.in_err-file.field-0.0 c.from_residual-in_err-file.result name c.making.invariant.draws.steady
+    at_step _ _ _ _ c.in_err-file.field-0.0 c.from_residual-in_err-file.result name c.making.invariant.draws.steady
     c.in_err-file.ensures.cause c.from_residual-in_err-file.ensures.1 at
 
 pub returns-in_err-fill-clause-sure : goal.returns-in_err-fill-clause-sure

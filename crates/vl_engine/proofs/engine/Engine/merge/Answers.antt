@@ -522,7 +522,7 @@ returns-in-Err-install-clause-sure g c name gives at =
     subst (λ (d : g.row.D.Denot). Rose (g.D.Watched.faults c.args.self.now.disk) (g.D.Watched.faults d)) (sym c.abandoned.ensures.disk)
     (at_install _ _ _ c.in-Err-install.fail c.abandoned.result name
     (c.in_default-carry_out.ensures.as_made.steady ∙ ap g.D.Watched.faults c.plan.ensures.disk)
-    c.in-Err-install.ensures.cause c.abandoned.ensures.refusal (err_same _ _ at))
+    c.in-Err-install.ensures.cause c.abandoned.ensures.refusal (err_same _ _ _ refl at))
 
 -- a halted engine did nothing
 

@@ -125,8 +125,8 @@ making-preserved g c =
 
 -- what it goes on with
 
-pub fill-requires-next : goal.fill-requires-next
-fill-requires-next g c =
+pub fill-requires-clause-next : goal.fill-requires-clause-next
+fill-requires-clause-next g c =
     next_same c.ready.new.self c.fresh.new.job c.fresh.ensures.job c.in-Some.next _ _ g.D.Held.HeldFile.bytes
     (c.in_ok-next.ensures.next c.in-Some.next c.in-Some.is)
 
