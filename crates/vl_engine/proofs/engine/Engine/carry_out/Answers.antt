@@ -10,6 +10,7 @@ use Rattle.vl_engine.proofs.Refusing.{tells_then}
 use Rattle.vl_disk.specs.laws.Performing.{changed_tells}
 use Rattle.vl_engine.specs.Refusals.{IsLastDrawn, moment}
 use Rattle.vl_engine.proofs.Sure.{at_read, at_step, not_memory}
+use Rattle.vl_compact.specs.declared.files.Lent.{Lent}
 use Rattle.vl_compact.specs.laws.ReadLaws.{read_whole}
 use Rattle.vl_compact.specs.laws.SureReaders.{filled_surely, read_surely, still_sure}
 use Rattle.vl_table.specs.declared.block_reader.BlockReader.{BlockReader}
@@ -441,7 +442,7 @@ returns-in_err-next-clause-sure g c name gives at =
 
 pub returns-in_err-file-clause-sure : goal.returns-in_err-file-clause-sure
 returns-in_err-file-clause-sure g c name gives at =
-    at_step _ _ _ _ c.in_err-file.field-0.0 c.from_residual-in_err-file.result name c.making.invariant.draws.steady
+    at_step (Lent g.row.D-Writer.Denot g.D.Writer.Writer) _ _ _ c.in_err-file.field-0.0 c.from_residual-in_err-file.result name c.making.invariant.draws.steady
     c.in_err-file.ensures.cause c.from_residual-in_err-file.ensures.1 at
 
 pub returns-in_err-fill-clause-sure : goal.returns-in_err-fill-clause-sure

@@ -1,5 +1,5 @@
 use Rattle.std.specs.Option.{is_some}
-use Rattle.std.proofs.Common.{Global, Ok, Option, Some, Vec, ap, refl, subst, sym, ◌∙◌}
+use Rattle.std.proofs.Common.{Err, Global, Ok, Option, Some, Vec, ap, refl, subst, sym, ◌∙◌}
 use Rattle.vl_seglog.specs.declared.sealed.SealedLog.{SealedLog}
 use Rattle.vl_compact.specs.Progress.{made_of}
 use Rattle.vl_compact.specs.laws.ReadLaws.{new_read}
@@ -16,6 +16,7 @@ use Rattle.vl_engine.proofs.MergeRemoved.{abandoned_removing, install_unpinned, 
 use Rattle.vl_engine.proofs.MergeRemoved.{untouched_removing, was_put_in}
 use Rattle.vl_engine.proofs.Whole.{begun, begun_with, collects_so, abandoned, abandoned_collecting, goes_on, none_kept, put_in}
 use Rattle.vl_disk.specs.Faults.{Rose}
+use Rattle.vl_engine.specs.declared.fails.MergeFail.{MergeFail}
 use Rattle.vl_engine.proofs.Sure.{at_install, err_same, not_memory}
 use Rattle.vl_engine.proofs.Switching.{install_idle}
 use Rattle.vl_engine.proofs.Whole.{put_in_collecting, unless_halted, untouched_by, untouched_collecting}
@@ -515,7 +516,7 @@ pub returns-in-Err-clause-sure : goal.returns-in-Err-clause-sure
 returns-in-Err-clause-sure g c name gives at =
     subst (λ (d : g.row.D.Denot). Rose (g.D.Watched.faults d) (g.D.Watched.faults c.abandon.new.self.disk)) c.plan.ensures.disk
     (subst (λ (d : g.row.D.Denot). Rose (g.D.Watched.faults c.plan.new.self.disk) (g.D.Watched.faults d)) (sym c.abandon.ensures.disk)
-    (c.carry_out.ensures.sure name (subst g.D.Watched.gives_steady (sym c.plan.ensures.disk) gives) (c.in-Err.is ∙ at)))
+    (c.carry_out.ensures.sure name (subst g.D.Watched.gives_steady (sym c.plan.ensures.disk) gives) (c.in-Err.is ∙ ap (λ (f : MergeFail). Err f) (err_same _ _ _ refl at))))
 
 pub returns-in-Err-install-clause-sure : goal.returns-in-Err-install-clause-sure
 returns-in-Err-install-clause-sure g c name gives at =
