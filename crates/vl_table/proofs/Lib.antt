@@ -13,6 +13,7 @@ mod Lookups
 mod MeetSteps
 mod OpenSteps
 mod OpeningSteps
+mod OrderSteps
 mod PartFaults
 mod Parts
 mod PointLaws

@@ -1,6 +1,7 @@
 pub mod Answers
 pub mod Begun
 pub mod BlockEntries
+pub mod BlockOrder
 pub mod CursorLeft
 pub mod CursorParts
 pub mod CursorStops

@@ -10,5 +10,6 @@ pub mod RangeLaws
 pub mod SharedBlocks
 pub mod TablePlaces
 pub mod TrueBlocks
+pub mod TrueOrder
 pub mod WalkedLaws
 pub mod WritingLaws

@@ -7,6 +7,7 @@ ghost use Rattle.vl_table.specs.body.Index.{SpellsIndex};
 ghost use Rattle.vl_table.specs.declared.body.index.BlockPlace.{BlockPlace};
 ghost use Rattle.vl_model.specs.Cutting.{blocks, points_of, table_length, with_point};
 ghost use Rattle.vl_table.specs.body.Bytes.{AreTabled, block_places, foot, table_bytes, IsTable};
+ghost use Rattle.vl_table.specs.BlockOrder.{TableBreaksAt};
 ghost use Rattle.vl_table.specs.Kept.{StandsBlock};
 ghost use Rattle.vl_table.specs.Seeks.{IsBadBlock};
 ghost use Rattle.vl_table.specs.Standing.{standing_entries};
@@ -65,4 +66,9 @@ pub fn blocks_have_what_stands()
 pub fn true_tables_have_no_bad_block<H: HeldFile>()
     ensures { (table : Table H) (es : List Entry) (damage : ℕ) → IsOf H.bytes table es
         → IsBadBlock (shape_of table) (table_bytes (shape_of table).format (number_of table) es) damage → ⊥ }
+{}
+
+/// And they are in order.
+pub fn true_tables_are_in_order<H: HeldFile>()
+    ensures { (table : Table H) (es : List Entry) (place : ℕ) → IsOf H.bytes table es → TableBreaksAt H.bytes table place → ⊥ }
 {}

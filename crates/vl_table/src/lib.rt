@@ -12,6 +12,7 @@
 
 mod begin;
 mod block;
+mod block_order;
 mod block_reader;
 mod body;
 mod cursor;
@@ -29,6 +30,7 @@ mod table;
 mod tested;
 mod writer;
 
+pub use block_order::first_out_of_order;
 pub use block_reader::{BlockReader, KEPT_BLOCKS};
 pub use body::{
     BlockPlace, BodyRef, EntryRef, Footer, FooterHead, Found, FoundBody, FramePlace, ShortValue,
@@ -37,8 +39,8 @@ pub use body::{
 pub use cursor::TableCursor;
 pub use laws::{
     a_worked_table, blocks_have_what_stands, bodies_are_read_in_one_way,
-    tables_are_read_in_one_way, tables_have_their_length, true_tables_are_read,
-    true_tables_have_no_bad_block,
+    tables_are_read_in_one_way, tables_have_their_length, true_tables_are_in_order,
+    true_tables_are_read, true_tables_have_no_bad_block,
 };
 pub use table::Table;
 pub use writer::{AddFail, TableWriter, Tail, WriteFail, tables_have_room};

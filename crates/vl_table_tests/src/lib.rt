@@ -7,6 +7,8 @@ mod cursors;
 #[cfg(test)]
 mod disk;
 #[cfg(test)]
+mod disorder;
+#[cfg(test)]
 mod levels;
 #[cfg(test)]
 mod merging;
