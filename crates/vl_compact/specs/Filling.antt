@@ -15,6 +15,8 @@ use Rattle.vl_compact.specs.Reading.{Counts, NoneRose}
 use Rattle.vl_compact.specs.Walking.{is_behind, spent, walk}
 use Rattle.vl_compact.specs.declared.files.Lent.{Lent}
 use Rattle.vl_compact.specs.declared.fill.Filled.{Filled}
+use Rattle.vl_compact.specs.declared.fill_fail.FillFail.{FillFail}
+use Rattle.vl_compact.specs.declared.fill_fail.FillFail.TheVariants.{Fault, NotInOrder}
 use Rattle.vl_disk.specs.declared.writer.Writer.{Ghosts}
 use Rattle.vl_engine_model.specs.declared.job.Job.{Job}
 use Rattle.vl_model.specs.Conflicts.{Named}
@@ -76,6 +78,16 @@ module _ {W : Type 0} (writer : Ghosts W) where
   abbrev pub FailsFilling : {g : _} → (Counts → ReadFault → Type 0) → Counts → (old new : Lent W g) → ReadFault → Type 0
   FailsFilling reads c old new fault =
       (reads c fault × IsSteady writer old new) ⊎ (FailsWriting writer old new fault × NoneRose c)
+
+  -- An entry wasn't added: writing failed, or it isn't behind the one before it, which counts nothing.
+  abbrev pub StopsAdding : {g : _} → (old new : Lent W g) → FillFail → Type 0
+  StopsAdding old new (Fault fault) = FailsWriting writer old new fault
+  StopsAdding old new NotInOrder = IsSteady writer old new
+
+  -- A table wasn't filled: reading or writing failed, or an entry isn't behind the one before it, which counts nothing.
+  abbrev pub StopsFilling : {g : _} → (Counts → ReadFault → Type 0) → Counts → (old new : Lent W g) → FillFail → Type 0
+  StopsFilling reads c old new (Fault fault) = FailsFilling reads c old new fault
+  StopsFilling reads c old new NotInOrder = NoneRose c × IsSteady writer old new
 
 -- those of some keys with their versions that aren't behind this key
 abbrev pub named_up_to : List ℕ → List Named → List Named

@@ -1,5 +1,5 @@
 -- Where the reading of a merge's inputs stops, and up to where they were read whole.
-use Rattle.std.specs.Prelude.{◌≡◌, ℕ, Bool, true, false, Option, None, Some, List, [], ◌∷◌, ◌++◌}
+use Rattle.std.specs.Prelude.{◌≡◌, ◌⊎◌, ℕ, Bool, true, false, Option, None, Some, List, [], ◌∷◌, ◌++◌}
 use Rattle.std.specs.List.{AllByRecursion, slice_get}
 use Rattle.std.specs.Option.{ForSome}
 use Rattle.std.specs.Ordering.{is_lt}
@@ -12,6 +12,7 @@ use Rattle.vl_model.specs.Keys.{key_cmp}
 use Rattle.vl_model.specs.declared.entry.Entry.{Entry}
 use Rattle.vl_model.specs.declared.span.Span.{Span}
 use Rattle.vl_model.specs.declared.way.Way.TheVariants.{Up}
+use Rattle.vl_table.specs.BlockOrder.{TableBreaksAt}
 use Rattle.vl_table.specs.CursorParts.{StandsWith, index_of}
 use Rattle.vl_table.specs.Kept.{NoBlock, StandsBlock}
 use Rattle.vl_table.specs.ReadTo.{TablesReadTo}
@@ -47,12 +48,12 @@ module _ {H : Type 0} (bytes_of : H → Option (List ℕ)) where
         → IsFirstBadOf (span_behind after) (shape_of t) (bytes_of t.held) place
 
   -- What a fault of a merge's inputs may be that is behind this key: want of memory, or one that names an input; and where it
-  -- says that this one is damaged, reading it behind the key stops there.
+  -- says that this one is damaged, reading it behind the key stops there, or there the order of its blocks breaks.
   abbrev pub MayStopIn : Option (List ℕ) → List (Table H) → ReadFault → Type 0
   MayStopIn after ts NoMemory = Unit {0}
   MayStopIn after ts (Disk name) = (i : ℕ) × (t : Table H) × (slice_get ts i ≡ Some t) × (name ≡ table_name (number_of t))
   MayStopIn after ts (Damaged name place) = (i : ℕ) × (t : Table H) × (slice_get ts i ≡ Some t) × (name ≡ table_name (number_of t))
-      × StopsAt after t place
+      × (StopsAt after t place ⊎ TableBreaksAt bytes_of t place)
 
   -- Of each of these tables the blocks that may have keys behind this one stand, up to one that has an entry of this kind, or all
   -- of them do, where its index rises.

@@ -5,7 +5,8 @@ ghost use Rattle.std.specs.Arc.{arc_value};
 ghost use Rattle.std.specs.Option.{ForSome};
 ghost use Rattle.std.specs.Ordering.{is_gt};
 ghost use Rattle.vl_model.specs.Cutting.{last_key};
-ghost use Rattle.vl_compact.specs.Filling.{Adds, EndsWith, FailsFilling, Fills, HasReadFor, IsWhole, IsWrittenTo, named_up_to};
+ghost use Rattle.vl_compact.specs.Filling.{Adds, EndsWith, Fills, HasReadFor, IsWhole, IsWrittenTo, named_up_to};
+ghost use Rattle.vl_compact.specs.Filling.{StopsAdding, StopsFilling};
 ghost use Rattle.vl_compact.specs.FirstTable.{closes, frames_length};
 ghost use Rattle.vl_compact.specs.Keeps.{AreRulesOf, stage};
 ghost use Rattle.vl_compact.specs.Keys.{is_past};
@@ -24,6 +25,7 @@ ghost use Rattle.vl_table.specs.writer.Tails.{tail_bytes};
 ghost use Rattle.vl_table.specs.writer.Writing.{IsWriting};
 
 use crate::files::Lent;
+use crate::fill_fail::FillFail;
 use crate::job_reader::JobReader;
 use crate::keeping::Keeping;
 use crate::next::Next;
@@ -53,7 +55,7 @@ pub fn fill<C: Cursor<Fault = ReadFault> + Drop, V: Sources<Fault = ReadFault>, 
     reader: &mut JobReader<C::Reader, V::Reader>,
     next: Next<C>,
     lent: &mut Lent<W>,
-) -> Result<Filled, ReadFault>
+) -> Result<Filled, FillFail>
     ensures fills { (j : laid.Job) (left : List Entry) → V.has base.now j.inputs j.base → V.fits base.now reader.old.looks
         → IsFirstOf (λ c. C.left c) j left next → IsAlong Up left
         → ForSome (W.file lent.old.writer) (λ f. f.bytes ≡ []) → IfOk result (Fills W.Writer j left lent.new) }
@@ -65,9 +67,9 @@ pub fn fill<C: Cursor<Fault = ReadFault> + Drop, V: Sources<Fault = ReadFault>, 
     ensures fits { V.fits base.now reader.old.looks → V.fits base.now reader.new.looks }
     ensures steady { OnOk result (NoneRose (counts (λ l. V.faults l) (λ r. C.faults r) reader.old reader.new)) }
     ensures kept { OnOk result (IsSteady W.Writer lent.old lent.new) }
-    ensures cause { IfErr result (λ fault. FailsFilling W.Writer (FailsReading (λ f. V.is_read_fault f)
+    ensures cause { IfErr result (λ fail. StopsFilling W.Writer (FailsReading (λ f. V.is_read_fault f)
         (MayWhere (V.fits base.now reader.old.looks) (V.may_fail base.now)) (λ f. C.is_read_fault f) (C.may_fail next.keeping.cursor))
-        (counts (λ l. V.faults l) (λ r. C.faults r) reader.old reader.new) lent.old lent.new fault) }
+        (counts (λ l. V.faults l) (λ r. C.faults r) reader.old reader.new) lent.old lent.new fail) }
 {
     let Next {
         first,
@@ -87,7 +89,7 @@ pub fn fill<C: Cursor<Fault = ReadFault> + Drop, V: Sources<Fault = ReadFault>, 
         &mut table,
         first,
     )?;
-    finish(alloc, lent, table, found)
+    Ok(finish(alloc, lent, table, found)?)
 }
 
 // Begins the table with its first entry.
@@ -124,7 +126,7 @@ fn add_kept<C: Cursor<Fault = ReadFault>, V: Sources<Fault = ReadFault>, W: Writ
     lent: &mut Lent<W>,
     table: &mut TableWriter,
     first: Entry,
-) -> Result<(), ReadFault>
+) -> Result<(), FillFail>
     ensures adds { (j : laid.Job) (left : List Entry) → AreRulesOf keeping.old.rules j → V.has base.now j.inputs j.base
         → V.fits base.now reader.old.looks → C.left keeping.old.cursor ≡ Some left → IsAlong Up (first ∷ left)
         → IsWrittenTo W.Writer lent.old table.old (first ∷ [])
@@ -135,9 +137,9 @@ fn add_kept<C: Cursor<Fault = ReadFault>, V: Sources<Fault = ReadFault>, W: Writ
     ensures fits { V.fits base.now reader.old.looks → V.fits base.now reader.new.looks }
     ensures steady { OnOk result (NoneRose (counts (λ l. V.faults l) (λ r. C.faults r) reader.old reader.new)) }
     ensures kept { OnOk result (IsSteady W.Writer lent.old lent.new) }
-    ensures cause { IfErr result (λ fault. FailsFilling W.Writer (FailsReading (λ f. V.is_read_fault f)
+    ensures cause { IfErr result (λ fail. StopsFilling W.Writer (FailsReading (λ f. V.is_read_fault f)
         (MayWhere (V.fits base.now reader.old.looks) (V.may_fail base.now)) (λ f. C.is_read_fault f) (C.may_fail keeping.old.cursor))
-        (counts (λ l. V.faults l) (λ r. C.faults r) reader.old reader.new) lent.old lent.new fault) }
+        (counts (λ l. V.faults l) (λ r. C.faults r) reader.old reader.new) lent.old lent.new fail) }
 {
     let mut last = first.key;
     'adding: while let Some(entry) = keeping.next(base, reader, found)? {
@@ -156,19 +158,20 @@ fn add<W: Writer>(
     lent: &mut Lent<W>,
     table: &mut TableWriter,
     entry: &Entry,
-) -> Result<(), ReadFault>
+) -> Result<(), FillFail>
     ensures added { (es : List Entry) → IsWrittenTo W.Writer lent.old table.old es
         → OnOk result (IsWrittenTo W.Writer lent.new table.new (es ++ entry.now ∷ [])) }
     ensures ends { (key : List ℕ) → EndsWith table.old key → OnOk result (EndsWith table.new entry.now.key) }
     ensures number { lent.new.number ≡ lent.old.number }
     ensures tells { IsSome (W.file lent.old.writer) → IsSome (W.file lent.new.writer) }
     ensures steady { OnOk result (IsSteady W.Writer lent.old lent.new) }
-    ensures fails { IfErr result (FailsWriting W.Writer lent.old lent.new) }
+    ensures fails { IfErr result (StopsAdding W.Writer lent.old lent.new) }
 {
     let mut block = Vec::new(alloc);
     match table.add(&mut block, entry) {
-        Ok(()) => append_some(lent, &block),
-        Err(fail) => Err(refused(fail)),
+        Ok(()) => Ok(append_some(lent, &block)?),
+        Err(AddFail::NotLawful) => Err(FillFail::NotInOrder),
+        Err(fail) => Err(FillFail::Fault(refused(fail))),
     }
 }
 
@@ -282,8 +285,7 @@ fn is_up_to(last: &Key, deletion: &(Key, u64)) -> bool
     !key_order(last.as_slice(), deletion.0.as_slice()).is_lt()
 }
 
-// The only answer is want of memory: also where an entry isn't in order, as of a table that was made up, and where the table would
-// be too long, as versions of one key may make it.
+// The only answer is want of memory: also where the table would be too long, as versions of one key may make it.
 fn refused(fail: AddFail) -> ReadFault
     ensures { result ≡ NoMemory }
 {

@@ -5,8 +5,10 @@
 
 use crate::Inputs;
 use crate::append::append_reserved;
+use crate::disorder::disorder_in;
 use crate::files::{Lent, Synced};
 use crate::fill::{Filled, fill};
+use crate::fill_fail::FillFail;
 use crate::job_reader::JobReader;
 use crate::keeping::Keeping;
 use crate::merge::merged;
@@ -315,7 +317,13 @@ impl<V: Sources<Fault = ReadFault>, H: HeldFile, W: Writer> Job<V, H, W> {
             (MayStopIn H.bytes self.old.after self.old.inputs.tables.items))
             (counts (λ l. V.faults l) (λ r. R.faults r) reader.old reader.new) lent.old lent.new) }
     {
-        let filled = fill(alloc, &self.base, reader, next, lent)?;
+        let filled = match fill(alloc, &self.base, reader, next, lent) {
+            Ok(filled) => filled,
+            Err(FillFail::Fault(fault)) => return Err(fault),
+            Err(FillFail::NotInOrder) => {
+                return Err(disorder_in(alloc, &mut reader.files, &self.inputs.tables));
+            }
+        };
         self.needless.reserve(filled.found.len())?;
         lent.sync()?;
         Ok(filled)

@@ -15,9 +15,11 @@
 
 mod append;
 mod choice;
+mod disorder;
 mod due;
 mod files;
 mod fill;
+mod fill_fail;
 mod inputs;
 mod job;
 mod job_reader;

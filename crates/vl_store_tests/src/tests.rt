@@ -1,3 +1,4 @@
+mod disorder;
 mod halts;
 mod large;
 mod opening;
