@@ -1,10 +1,12 @@
 -- A fault behind steps that counted none is one of all of them.
 use Rattle.std.proofs.Common.{◌≡◌, inl, inr, ℕ, Bool, ap, subst, sym, ◌∙◌}
 use Rattle.std.specs.Prelude.{Result, Ok, Err, IsErrAnd, IfErr}
-use Rattle.vl_compact.specs.Filling.{FailsFilling}
+use Rattle.vl_compact.specs.Filling.{FailsFilling, StopsFilling}
 use Rattle.vl_compact.specs.Lending.{FailsWriting, IsSteady}
 use Rattle.vl_compact.specs.Reading.{FailsReading, MayWhere, NoneRose, counts}
 use Rattle.vl_compact.specs.declared.files.Lent.{Lent}
+use Rattle.vl_compact.specs.declared.fill_fail.FillFail.{FillFail}
+use Rattle.vl_compact.specs.declared.fill_fail.FillFail.TheVariants.{Fault, NotInOrder}
 use Rattle.vl_compact.specs.declared.job_reader.JobReader.{JobReader}
 use Rattle.vl_disk.specs.Faults.{Rose}
 use Rattle.vl_disk.specs.declared.name.Name.TheVariants.{Table as table_name}
@@ -57,6 +59,19 @@ module _ {R L : Type 0} (sources : L → ℕ) (files : R → ℕ) (of_sources of
           named = failed.named ∙ ap (λ n. Disk (table_name n)) number;
           rose = subst (λ n. Rose n (writer.faults then.writer)) still failed.rose;
         }
+
+    -- so too where an entry isn't behind the one before it
+    pub stops_later : {g : _} (lent between then : Lent W g) → between.number ≡ lent.number → IsSteady writer lent between
+        → (fits fits' : Type 0) (may may_files may_files' : ReadFault → Type 0) → (fits → fits')
+        → ((fault : ReadFault) → may_files' fault → may_files fault) → (fail : FillFail)
+        → StopsFilling writer (FailsReading of_sources (MayWhere fits' may) of_files may_files') (counts sources files mid new)
+        between then fail
+        → StopsFilling writer (FailsReading of_sources (MayWhere fits may) of_files may_files) (counts sources files old new)
+        lent then fail
+    stops_later lent between then number still fits fits' may may_files may_files' holds keeps (Fault fault) stops =
+        fills_later lent between then number still fits fits' may may_files may_files' holds keeps fault stops
+    stops_later lent between then number still fits fits' may may_files may_files' holds keeps NotInOrder (none, steady_then) =
+        (record { sources = none.sources ∙ steady.sources; files = none.files ∙ steady.files }, steady_then ∙ still)
 
 -- what is said of a fault is said of a call that passes it on
 pub passed_on : {A E : Type 0} (e : E) (result : Result A E) (P : E → Type 0) → IsErrAnd result (λ f. f ≡ e) → P e → IfErr result P

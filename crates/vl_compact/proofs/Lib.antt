@@ -17,6 +17,7 @@ mod Passing
 mod Pieces
 mod PlaceLaws
 mod PutLaws
+mod Searching
 mod Stopping
 mod Telling
 mod Zips

@@ -1,7 +1,6 @@
 -- Lists that are gone through by an index.
 use Rattle.std.proofs.Common.{◌≡◌, ℕ, zero, suc, ◌+◌, ◌<◌, ◌≤◌, true, false, cond, List, [], ◌∷◌, ◌++◌, length, take}
 use Rattle.std.proofs.Common.{drop, get_or, refl, ap, sym, ◌∙◌, arith, Some}
-use Rattle.std.specs.Prelude.{Result, Ok, Err, IfOk}
 use Rattle.std.specs.FinMap.{find}
 use Rattle.std.specs.Ordering.{eq_by_cmp}
 use Rattle.vl_model.specs.Conflicts.{Named}
@@ -40,11 +39,3 @@ find_here key x xs is = ap (λ b. cond b (Some x.1) (find key_cmp key xs)) is
 pub find_later : (key : List ℕ) (x : Named) (xs : List Named) → eq_by_cmp key_cmp key x.0 ≡ false
     → find key_cmp key (x ∷ xs) ≡ find key_cmp key xs
 find_later key x xs is = ap (λ b. cond b (Some x.1) (find key_cmp key xs)) is
-
--- ---- results
-
--- what is so of what there is, three times
-pub if_ok_three : {X E : Type 0} (r : Result X E) (P Q R S : X → Type 0) → ((x : X) → P x → Q x → R x → S x)
-    → IfOk r P → IfOk r Q → IfOk r R → IfOk r S
-if_ok_three (Ok x) P Q R S goes p q r = goes x p q r
-if_ok_three (Err e) P Q R S goes p q r = tt

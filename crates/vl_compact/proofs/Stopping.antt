@@ -1,5 +1,6 @@
 -- Where a cursor over an input stops, and where reading the input does.
-use Rattle.std.proofs.Common.{◌≡◌, ℕ, Bool, true, ◌&&◌, List, [], ◌∷◌, ◌++◌, Option, Some, get_or, refl, ap, sym, subst, ◌∙◌, ◌+◌, ◌<◌, length, take}
+use Rattle.std.proofs.Common.{◌≡◌, inl, ℕ, Bool, true, ◌&&◌, List, [], ◌∷◌, ◌++◌, Option, Some, get_or, refl, ap, sym, subst}
+use Rattle.std.proofs.Common.{◌∙◌, ◌+◌, ◌<◌, length, take}
 use Rattle.std.proofs.lemmas.Grind.{take_at_read}
 use Rattle.std.specs.Prelude.{map, unwrap_or}
 use Rattle.std.specs.List.{AllByRecursion, slice_get}
@@ -104,7 +105,7 @@ module _ {H : Type 0} (bytes_of : H → Option (List ℕ)) where
           t,
           found,
           named,
-          record {
+          inl record {
             bad = bad;
             first = λ rises. subst (λ (u : Table H). IsFirstBadOf span (shape_of u) (bytes_of u.held) place) is
                 (first_bad name place (may.1

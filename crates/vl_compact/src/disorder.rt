@@ -1,6 +1,6 @@
 //! Why an entry came that isn't behind the one before it.
 
-ghost use Rattle.std.specs.Prelude.{Option, List};
+ghost use Rattle.std.specs.Prelude.{ℕ, Option, List};
 ghost use Rattle.vl_compact.specs.Stops.{MayStopIn};
 ghost use Rattle.vl_model.specs.Cursors.{IsCounted};
 ghost use Rattle.vl_table.specs.CursorParts.{is_disk_fault};

@@ -12,8 +12,8 @@ use vl_mem::MemDisk;
 const SHORT: &str =
     "aaaaaaaaaaaaaaaaaaaaaaaaaaaaaaaaaaaaaaaaaaaaaaaaaaaaaaaaaaaaaaaaaaaaaaaaaaaaaaaaaaaaaaaaaaaaaaaaaaaaaaaaaaaaaaaaaaaaaaaaaaaaaaaa";
 
-/// An entry of a key of two bytes has 79: 2 and 2, 8, a kind, a user byte, a length, and 64. So of sixty the first block has 51, in
-/// a frame of 5 + 4 + 51 * 79 + 8 = 4046 bytes at 16, and the second begins at 4062, with 9 in 728 bytes.
+/// An entry of a key of two bytes has 79: 2 and 2, 8, a kind, a user byte, a length, and 64. So of sixty the first block has
+/// 51, in a frame of 5 + 4 + 51 * 79 + 8 = 4046 bytes at 16, and the second begins at 4062, with 9 in 728 bytes.
 const SECOND: usize = 4062;
 
 const INDEX: usize = SECOND + 728;

@@ -1,8 +1,6 @@
 use Rattle.std.proofs.Common.{Some, refl, subst, sym}
-use Rattle.std.proofs.lemmas.Result.{IfOk-weaker}
 use Rattle.vl_compact.proofs.Adding.{filled_with}
-use Rattle.vl_compact.proofs.Failing.{fills_later, passed_on}
-use Rattle.vl_compact.proofs.Lists.{if_ok_three}
+use Rattle.vl_compact.proofs.Failing.{stops_later, passed_on}
 use Rattle.vl_compact.specs.Filling.{EndsWith}
 use Rattle.vl_compact.specs.Walking.{is_behind}
 use Rattle.vl_model.specs.Cutting.{last_key}
@@ -21,18 +19,16 @@ returns-clause-fills g c = λ j left has fits first along fresh.
       writing = a.written.writing;
       last = refl;
     } in
-    if_ok_three c.finish.result _ _ _ _
-    (λ filled whole last found_are. filled_with g.W.Writer j left next.keeping.last (g.C.Cursor.left next.keeping.cursor)
-    next.found.items c.add_kept.new.found.items next.first n c.add_kept.new.lent c.add_kept.new.table a c.finish.new.lent filled
-    whole last found_are)
-    (c.finish.ensures.whole a.all a.written) (c.finish.ensures.last (last_key a.all) ends) c.finish.ensures.found
+    filled_with g.W.Writer j left next.keeping.last (g.C.Cursor.left next.keeping.cursor)
+    next.found.items c.add_kept.new.found.items next.first n c.add_kept.new.lent c.add_kept.new.table a c.finish.new.lent
+    c.in_ok-finish.field-0 (c.in_ok-finish.ensures.whole a.all a.written) (c.in_ok-finish.ensures.last (last_key a.all) ends)
+    c.in_ok-finish.ensures.found
 
 pub returns-clause-reads : goal.returns-clause-reads
 returns-clause-reads g c =
     let read = c.in_ok-add_kept.ensures.reads c.in_ok-table.ensures.ends in
-    IfOk-weaker c.finish.result _ _
-    (λ filled is. subst (λ k. g.C.Cursor.stands_to c.args.next.keeping.cursor (is_behind (Some k))) (sym is) read.read)
-    (c.finish.ensures.last read.key read.ends)
+    subst (λ k. g.C.Cursor.stands_to c.args.next.keeping.cursor (is_behind (Some k)))
+    (sym (c.in_ok-finish.ensures.last read.key read.ends)) read.read
 
 pub returns-in_err-add_kept-clause-cause : goal.returns-in_err-add_kept-clause-cause
 returns-in_err-add_kept-clause-cause g c =
@@ -40,7 +36,7 @@ returns-in_err-add_kept-clause-cause g c =
     let fits = g.V.Sources.fits base c.args.reader.now.looks in
     let may = g.C.Cursor.may_fail c.args.next.keeping.cursor in
     passed_on _ c.from_residual-in_err-add_kept.result _ c.from_residual-in_err-add_kept.ensures.1
-    (fills_later (λ l. g.V.Sources.faults l) (λ r. g.C.Cursor.faults r) (λ f. g.V.Sources.is_read_fault f)
+    (stops_later (λ l. g.V.Sources.faults l) (λ r. g.C.Cursor.faults r) (λ f. g.V.Sources.is_read_fault f)
     (λ f. g.C.Cursor.is_read_fault f) c.args.reader.now c.args.reader.now c.add_kept.new.reader (record { sources = refl; files = refl })
     g.W.Writer c.args.lent.now c.begin.new.lent c.add_kept.new.lent c.begin.ensures.number c.in_ok-table.ensures.steady
     fits fits (g.V.Sources.may_fail base) may may (λ f. f) (λ fault m. m) _ c.in_err-add_kept.ensures.cause)

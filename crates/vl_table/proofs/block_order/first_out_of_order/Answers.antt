@@ -18,8 +18,8 @@ returns-in_err-load-clause-order g c =
     let p = err_from_is_err_and c.from_residual-in_err-load.result c.from_residual-in_err-load.ensures.1 in
     subst (λ (r : Result (Option ℕ) ReadFault). SaysOrder bytes t r) (sym (p.1 ∙ ap Err p.2))
     (fails_here bytes t c.shape-shape.result.now c.shape-shape.ensures c.loop-at.at c.loop-at.last c.index.result.now
-    (omega (arith, c.loop-at-test.true, c.len-at-end.ensures)) c.index.ensures c.loop-at.invariant.so c.held.result.now c.of-id.result _ _ _ c.in_err-load.field-0.0 c.held.ensures
-    c.of-id.ensures c.in_err-load.ensures.answers)
+    (omega (arith, c.loop-at-test.true, c.len-at-end.ensures)) c.index.ensures c.loop-at.invariant.so
+    c.held.result.now c.of-id.result _ _ _ c.in_err-load.field-0.0 c.held.ensures c.of-id.ensures c.in_err-load.ensures.answers)
 
 pub returns-in_err-load-clause-may_fail : goal.returns-in_err-load-clause-may_fail
 returns-in_err-load-clause-may_fail g c =
@@ -63,5 +63,9 @@ loop-at-preserved g c =
 pub returns-clause-order : goal.returns-clause-order
 returns-clause-order g c =
     all_passed g.H.HeldFile.bytes c.args.table.now c.loop-at.at c.loop-at.last
-    (omega (arith, c.loop-at-test.false, c.len-at-end.ensures, ap (λ (s : TableShape). length s.blocks.items) c.shape-shape.ensures))
-    c.loop-at.invariant.so
+    (omega (
+      arith,
+      c.loop-at-test.false,
+      c.len-at-end.ensures,
+      ap (λ (s : TableShape). length s.blocks.items) c.shape-shape.ensures,
+    )) c.loop-at.invariant.so
