@@ -8,5 +8,6 @@ pub mod RaceLaws
 pub mod ReadLaws
 pub mod Repeats
 pub mod SureReaders
+pub mod TrueInputs
 pub mod WalkLaws
 pub mod WholeLaws

@@ -40,7 +40,7 @@ pub use files::{Lent, Synced};
 pub use inputs::Inputs;
 pub use job::Job;
 pub use job_reader::JobReader;
-pub use laws::{merges_are_as_ruled, what_was_read_whole_stands};
+pub use laws::{merges_are_as_ruled, true_inputs_are_not_damaged, what_was_read_whole_stands};
 pub use next::Next;
 pub use parts::Parts;
 pub use plan::{drained, planned};

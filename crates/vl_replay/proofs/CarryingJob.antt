@@ -9,7 +9,6 @@ use Rattle.std.proofs.lemmas.List.Elements.{All-from_recursion}
 use Rattle.vl_model.specs.Cursors.{HasRisen}
 use Rattle.vl_disk.specs.laws.Counting.{rose_at_all}
 use Rattle.vl_compact.specs.Keys.{behind}
-use Rattle.vl_compact.specs.Laid.{AreTablesOf}
 use Rattle.vl_compact.specs.Lending.{FailsWriting, HasFailed, IsSteady, Wanted}
 use Rattle.vl_compact.specs.Progress.{FailsWith, IsNew, IsTableFile, KeepsAll, Leaves, Takes}
 use Rattle.vl_compact.specs.Reading.{Counts, FailsReading, IsMemory, IsOfFiles, IsOfSources, IsSure, MayWhere, NoneRose, counts}
@@ -18,6 +17,7 @@ use Rattle.vl_compact.specs.declared.files.Lent.{Lent}
 use Rattle.vl_compact.specs.declared.files.Synced.{Synced}
 use Rattle.vl_compact.specs.declared.job.Job.{Job as TheJob}
 use Rattle.vl_compact.specs.laws.SureReaders.{filled_surely, read_surely}
+use Rattle.vl_compact.specs.laws.TrueInputs.{no_damage as no_damaged_input}
 use Rattle.vl_compact.specs.declared.job_reader.JobReader.{JobReader}
 use Rattle.vl_disk.specs.Calls.{ChangesNothing}
 use Rattle.vl_disk.specs.DiskState.{new_file}
@@ -36,7 +36,6 @@ use Rattle.vl_steps.specs.declared.fails.StepFail.TheVariants as fails
 use Rattle.vl_engine_laws.specs.declared.open.OpenMerge.{OpenMerge}
 use Rattle.vl_engine_model.specs.Jobs.{AreDistinct}
 use Rattle.vl_engine_model.specs.declared.job.Job.{Job}
-use Rattle.vl_engine_model.specs.declared.table.Table as laid
 use Rattle.vl_model.specs.Numbers.{has}
 use Rattle.vl_model.specs.declared.entry.Entry.{Entry}
 use Rattle.vl_table.specs.CursorParts.{MayFailOn, is_disk_fault}
@@ -90,17 +89,6 @@ module _ {H : Type 0} (bytes : H → Option (List ℕ)) where
       some_same a b e = cc
   is_at (x ∷ ts) (es ∷ ess) (suc i) t all found = is_at ts ess i t all.1 found
 
-  pub is_among : (ts : List (Table H)) (ls : List laid.Table) (i : ℕ) (t : Table H) → AreTablesOf bytes ts ls → slice_get ts i ≡ Some t
-      → (es : List Entry) × IsOf bytes t es
-  is_among [] [] i t all found = absurd (let no : None ≡ Some t = found in cc)
-  is_among [] (l ∷ ls) i t all found = absurd all
-  is_among (x ∷ ts) [] i t all found = absurd all
-  is_among (x ∷ ts) (l ∷ ls) zero t all found = (l.entries, subst (λ (y : Table H). IsOf bytes y l.entries) (some_same x t found) all.0.of)
-    where
-      some_same : (a b : Table H) → Some a ≡ Some b → a ≡ b
-      some_same a b e = cc
-  is_among (x ∷ ts) (l ∷ ls) (suc i) t all found = is_among ts ls i t all.1 found
-
   -- no table is damaged whose file has its bytes
   undamaged : (t : Table H) (es : List Entry) (place : ℕ) → IsOf bytes t es
       → ForSome (bytes t.held) (λ all. IsBadBlock (shape_of t) all place) → ⊥
@@ -123,9 +111,7 @@ module _ {H R W : Type 0} (writers : Writers W) (bytes : H → Option (List ℕ)
       let (es, its) = is_at bytes (tables_in job.base.version) is.is.base.tabled i t is.is.base.tables found in
       undamaged bytes t es place its bad)
       (λ (of : IsOfFiles is_disk_fault (MayStopIn bytes job.after job.inputs.tables.items) c (Damaged name place)).
-      let (i, t, found, named, bad) = of.had in
-      let (es, its) = is_among bytes job.inputs.tables.items is.is.tables i t is.is.inputs found in
-      undamaged bytes t es place its bad.bad)
+      no_damaged_input bytes job.after job.inputs.tables.items is.is.tables name place is.is.inputs of.had)
       other)
       fails
     where

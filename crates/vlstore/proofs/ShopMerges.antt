@@ -1,8 +1,8 @@
 -- A merge over disks that never fail: it is refused where numbers ran out, or since a relocation came between.
-use Rattle.std.proofs.Common.{◌≡◌, ◌≢◌, ℕ, ◌+◌, ◌≤◌, List, [], ◌∷◌, length, map, refl, sym, subst, inl, inr}
+use Rattle.std.proofs.Common.{◌≡◌, ◌≢◌, ℕ, ◌+◌, ◌≤◌, List, [], length, refl, sym, subst, inl, inr}
 use Rattle.std.specs.Prelude.{Bool, true, false, if◌then◌else◌, Option, None, Some, Result, Ok, Err, IfErr, IsErrAnd, ⊤}
-use Rattle.vl_compact.specs.Laid.{AreTablesOf}
 use Rattle.vl_compact.specs.Stops.{MayStopIn}
+use Rattle.vl_compact.specs.laws.TrueInputs.{no_damage}
 use Rattle.vl_disk.specs.Faults.{NoneCounted}
 use Rattle.vl_disk.specs.declared.read_fault.ReadFault.TheVariants as read
 use Rattle.vl_disk.specs.declared.read_fault.ReadFault.{ReadFault}
@@ -22,15 +22,12 @@ use Rattle.vl_engine_model.specs.Rulings.Plan.{plan_ruling}
 use Rattle.vl_engine_model.specs.declared.file_name.FileName.{FileName}
 use Rattle.vl_engine_model.specs.declared.layout.Layout.{Layout}
 use Rattle.vl_engine_model.specs.declared.lock_history.LockEntry.{LockEntry}
-use Rattle.vl_engine_model.specs.declared.table.Table as laid
 use Rattle.vl_model.specs.Cursors.{IsCounted}
 use Rattle.vl_model.specs.History.{History}
 use Rattle.vl_model.specs.Limits.{max_file_number}
 use Rattle.vl_model.specs.declared.counter.Counter.TheVariants as counters
 use Rattle.vl_model.specs.declared.counter.Counter.{Counter}
 use Rattle.vl_table.specs.CursorParts.{MayFailOn, is_disk_fault}
-use Rattle.vl_table.specs.OfTables.{AreOf}
-use Rattle.vl_table.specs.declared.table.Table.{Table}
 use Rattle.vl_version.specs.Sources.{tables_in}
 use Rattle.vlstore.proofs.PassLaws.{none_bad, none_risen}
 use Rattle.vlstore.proofs.Stores.{prefix_on}
@@ -57,14 +54,6 @@ tables_out l h counter is = by l.halted is
         → (fresh_unless o l h).answer ≡ fresh.Exhausted counters.Table
     by None e = counted (has_no_number l.next_table 1) e
     by (Some name) e = absurd (let no : fresh.Halted name ≡ fresh.Exhausted counter = e in cc)
-
--- the tables that a merge takes are true
-are_of : {H : Type 0} (bytes : H → Option (List ℕ)) (ts : List (Table H)) (ls : List laid.Table) → AreTablesOf bytes ts ls
-    → AreOf bytes ts (map (λ (t : laid.Table). t.entries) ls)
-are_of bytes [] [] are = tt
-are_of bytes [] (l ∷ ls) are = absurd are
-are_of bytes (t ∷ ts) [] are = absurd are
-are_of bytes (t ∷ ts) (l ∷ ls) are = (are.0.of, are_of bytes ts ls are.1)
 
 module _ {H R W : Type 0} (sure : Type 0) (surely : sure) (writers : Writers W) (bytes : H → Option (List ℕ)) (faults_of : R → ℕ)
     (steady : (r : R) → NoneCounted (faults_of r)) (never : (w : W) → NoneCounted (writers.faults w)) (v m w : Knows) where
@@ -97,10 +86,9 @@ module _ {H R W : Type 0} (sure : Type 0) (surely : sure) (writers : Writers W) 
           → IsCounted (is_disk_fault f) before now → f ≡ read.NoMemory
       taken read.NoMemory may none counted = refl
       taken (read.Disk name) may {before} {now} none counted = absurd (none_risen before now none counted)
-      taken (read.Damaged name place) (i, t, there, named, stops) none counted =
+      taken (read.Damaged name place) may none counted =
           let has = made.due.has.is in
-          absurd (none_bad bytes made.job.inputs.tables.items (map (λ (l : laid.Table). l.entries) has.tables)
-          (are_of bytes made.job.inputs.tables.items has.tables has.inputs) name place (i, t, there, named, stops.bad))
+          absurd (no_damage bytes made.key made.job.inputs.tables.items has.tables name place has.inputs may)
 
   module _ (on : GoesOn m w) (own : w.own ≡ m.own) (runs : v.origin.layout.halted ≡ None) where
     between : (P Q : Layout → History → Type 0) → ((l : Layout) (h : History) → P l h → Q l h) → Between v m P
