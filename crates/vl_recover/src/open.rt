@@ -96,6 +96,8 @@ pub fn recover<D: Disk>(
         (IsDiskFault (read_faults D.Reader.faults result) (recovery_of result)) }
     // What that reader failed at is answered as a fault: not as want of memory, and not as damage.
     ensures read_fault { HasCounted (read_faults D.Reader.faults result) → HasFailed (recovery_of result) }
+    // None is handed back only where none was made, for want of memory, and the disk is as it was.
+    ensures no_reader { IfErr result (λ fail. fail.reader ≡ None → (fail.why ≡ OpenError.NoMemory) × (fail.disk ≡ disk)) }
     // One that never fails counted none.
     ensures steady { D.gives_steady disk → NoneCounted (read_faults D.Reader.faults result) }
     // Where it counted a fault nothing was changed either.

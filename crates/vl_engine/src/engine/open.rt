@@ -118,6 +118,8 @@ impl<D: Disk> Engine<D> {
             (IsDiskFault (reader_faults D.Reader.faults result) (why_of result)) }
         // What that reader failed at is answered as a fault: not as want of memory, and not as damage.
         ensures read_fault { HasCounted (reader_faults D.Reader.faults result) → IsFault (why_of result) }
+        // None is handed back only where none was made, for want of memory, and the disk is as it was.
+        ensures no_reader { IfErr result (λ fail. fail.reader ≡ None → (fail.why ≡ OpenError.NoMemory) × (fail.disk ≡ disk)) }
         // One that never fails counted none: so each fault is the disk's.
         ensures steady { D.gives_steady disk → NoneCounted (reader_faults D.Reader.faults result) }
         // Where no table is named it isn't asked. Where it counted a fault nothing is changed.
