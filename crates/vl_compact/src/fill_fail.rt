@@ -8,7 +8,7 @@ use vl_disk::ReadFault;
 pub enum FillFail {
     /// Reading or writing failed.
     Fault(ReadFault),
-    /// An entry came that isn't behind the one before it.
+    /// An entry came that its table may not have behind the one before it.
     NotInOrder,
 }
 

@@ -216,7 +216,7 @@ impl<V: Sources<Fault = ReadFault>, H: HeldFile, W: Writer> Job<V, H, W> {
         ensures fits { V.fits self.old.base reader.old.looks → V.fits self.old.base reader.new.looks }
         ensures steady { OnOk result (NoneRose (counts (λ l. V.faults l) (λ r. R.faults r) reader.old reader.new)) }
         // Reading fails only where a count says so. Which fault of its sources it is hangs on what the reader keeps. An input is
-        // damaged at the first block behind the last key made that doesn't stand.
+        // damaged at the first block behind the last key made that doesn't stand, or where the order of its blocks breaks.
         ensures cause { IfErr result (FailsReading (λ f. V.is_read_fault f)
             (MayWhere (V.fits self.old.base reader.old.looks) (V.may_fail self.old.base)) is_disk_fault
             (MayStopIn H.bytes self.old.after self.old.inputs.tables.items)
@@ -245,7 +245,8 @@ impl<V: Sources<Fault = ReadFault>, H: HeldFile, W: Writer> Job<V, H, W> {
     }
 
     /// Makes the next table in this file, of what `ready` gave: one append for the header, each block, the index, the filter, the
-    /// footer and the last eight bytes, then one sync. After a fault it is as before, and the file is a leaving.
+    /// footer and the last eight bytes, then one sync. After a fault it is as before, and the file is a leaving. Where an entry
+    /// comes that isn't behind the one before it, the inputs are read once more, to find the first block that is out of order.
     pub fn fill<R: Reader<Held = H> + Drop>(
         &mut self,
         alloc: Global,
@@ -265,7 +266,8 @@ impl<V: Sources<Fault = ReadFault>, H: HeldFile, W: Writer> Job<V, H, W> {
         ensures fits { V.fits self.old.base reader.old.looks → V.fits self.old.base reader.new.looks }
         ensures steady { OnOk result (NoneRose (counts (λ l. V.faults l) (λ r. R.faults r) reader.old reader.new)) }
         // Reading and writing fail only where a count says so. Which fault of its sources it is hangs on what the reader keeps.
-        // An input is damaged at the first block behind the last key made that doesn't stand.
+        // An input is damaged at the first block behind the last key made that doesn't stand, or where the order of its blocks
+        // breaks.
         ensures cause { IfErr result (FailsWith W.Writer (FailsReading (λ f. V.is_read_fault f)
             (MayWhere (V.fits self.old.base reader.old.looks) (V.may_fail self.old.base)) is_disk_fault
             (MayStopIn H.bytes self.old.after self.old.inputs.tables.items))

@@ -222,8 +222,8 @@ can_merge size Due version = is_due size version
 can_merge size (LeadsInto segment) version = is_led_into segment version
 
 module _ {H R W : Type 0} (bytes : H → Option (List ℕ)) (faults : R → ℕ) (writers : Writers W) where
-  -- What reading for a merge may fail by: one of its tables, which reading behind some key stops at; or, where look-ups in its base
-  -- fit, one of the base's.
+  -- What reading for a merge may fail by: one of its tables, at which reading behind some key stops, or whose order breaks; or,
+  -- where look-ups in its base fit, one of the base's.
   abbrev pub MayFailMerging : (fits : Type 0) → {k : _} → Job (Base H R) H W k → ReadFault → Type 0
   MayFailMerging fits job fault =
       ((after : Option (List ℕ)) × MayStopIn bytes after job.inputs.tables.items fault)
