@@ -62,7 +62,7 @@ module _ {H R : Type 0} (faults : R → ℕ) where
       (ap (λ (t : Thing H R). faults (reader_of t)) same ∙ none.each name thing taken.found)
 
   -- writes don't change what reads
-  pub written_reads : (old new : Txn H R) → OnlyWrites old new → faults (reader_of (Transaction old)) ≡ never
+  written_reads : (old new : Txn H R) → OnlyWrites old new → faults (reader_of (Transaction old)) ≡ never
       → faults (reader_of (Transaction new)) ≡ never
   written_reads old new keeps sure = ap (λ (t : Txn H R). faults t.reader.reader) keeps ∙ sure
 
@@ -101,3 +101,9 @@ module _ {H R : Type 0} (faults : R → ℕ) where
         let named : o.name ≡ name = ap (λ (w : Open H R). w.name) there ∙ place_named name os at place_is o in
         changed_reads os (slice_set os at p) name new (changed_at name os at p named place_is once) none
         (still (its_reads thing thing_is none))
+
+    -- nor does a transaction there that was written
+    pub writes_in_place : AreOnce os → (old new : Txn H R) → o.thing ≡ Transaction old → OnlyWrites old new → NoneFails os faults
+        → NoneFails (slice_set os at (record { name = o.name; thing = Transaction new })) faults
+    writes_in_place once old new thing_is keeps none =
+        reads_in_place once (Transaction old) (Transaction new) thing_is none (written_reads old new keeps)

@@ -9,7 +9,7 @@ use Rattle.vl_replay_laws.specs.laws.Names.Lookups.{place_there, without_open}
 use Rattle.vl_replay_laws.specs.laws.Names.Making.{read_only_makes, write_makes}
 use Rattle.vl_replay_laws.specs.laws.Names.Placing.{free_returns, in_place, out_of_place, still_in_place}
 use Rattle.vl_script.specs.declared.answer.Answer.TheVariants as answers
-use Rattle.vl_replay_laws.specs.laws.Names.Unfailing.{reads_in_place, written_reads}
+use Rattle.vl_replay_laws.specs.laws.Names.Unfailing.{reads_in_place, writes_in_place}
 use Rattle.vl_replay.proofs.replayer.Served.write.Goals as goal
 
 pub returns-in_default-clause-makes : goal.returns-in_default-clause-makes
@@ -71,7 +71,6 @@ returns-in-View-clause-sure g c s stands none =
 
 pub returns-clause-sure : goal.returns-clause-sure
 returns-clause-sure g c s stands none =
-    reads_in_place _ c.args.self.now.opens.items c.deref.result.now c.deref.ensures.value c.as_slice.result.now
+    writes_in_place _ c.args.self.now.opens.items c.deref.result.now c.deref.ensures.value c.as_slice.result.now
     c.args.name c.as_slice.ensures c.in-Some.at (sym c.place.ensures ∙ c.in-Some.is) c.index_mut.result.now c.index_mut.ensures.value
-    stands.names.once (Transaction c.in-Transaction.txn) (Transaction c.change.new.txn) c.in-Transaction.is none
-    (written_reads _ c.in-Transaction.txn c.change.new.txn c.change.ensures.keeps)
+    stands.names.once c.in-Transaction.txn c.change.new.txn c.in-Transaction.is c.change.ensures.keeps none
