@@ -54,9 +54,10 @@ use Rattle.vl_version.specs.Sources.{tables_in}
 use Rattle.vl_version.specs.declared.base.Base.{Base}
 use Rattle.vl_script_model.specs.Failing.{ByReader, ByWriter, ReaderFailed, beside}
 use Rattle.vl_script_model.specs.Halts.{HaltsByDisk, HaltsByReader}
-use Rattle.vl_replay.specs.Handed.{MayHandIn, are_distinct}
+use Rattle.vl_replay.specs.Handed.{MayHandIn}
+use Rattle.vl_space.specs.Removing.{are_distinct}
 use Rattle.vl_replay.specs.Rounds.{HasLent, halt_by, round_by}
-use Rattle.vl_replay.proofs.CarryingLists.{all_among, all_more, apart_all, more_distinct}
+use Rattle.vl_replay_laws.specs.laws.Merges.Lists.{all_among, all_more, apart_all, more_distinct}
 
 -- ---- what it has
 
