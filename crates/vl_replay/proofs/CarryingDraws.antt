@@ -48,8 +48,8 @@ use Rattle.vl_script_model.specs.Sequential.{State, history_of}
 use Rattle.vl_script_model.specs.Stopped.{AreNumberedUpTo, StopsStep}
 use Rattle.vl_script_model.specs.Stored.{IsStored}
 use Rattle.vl_script_model.specs.declared.fails.Halt.{Halt}
-use Rattle.vl_replay.proofs.CarryingDisk.{fresh_torn, stays}
-use Rattle.vl_replay.proofs.CarryingLists.{drawn_none}
+use Rattle.vl_replay_laws.specs.laws.Merges.Rounds.{fresh_torn, stays}
+use Rattle.vl_replay_laws.specs.laws.Merges.Lists.{drawn_none}
 use Rattle.vl_script_model.specs.laws.DiskSteps.{IsWatched}
 use Rattle.vl_script_model.specs.laws.HeldDisk.{stored_by}
 

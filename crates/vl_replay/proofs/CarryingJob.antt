@@ -21,7 +21,7 @@ use Rattle.vl_compact.specs.laws.TrueInputs.{no_damage as no_damaged_input}
 use Rattle.vl_compact.specs.declared.job_reader.JobReader.{JobReader}
 use Rattle.vl_disk.specs.Calls.{ChangesNothing}
 use Rattle.vl_disk.specs.DiskState.{new_file}
-use Rattle.vl_disk.specs.Faults.{HasCounted, Rose, never}
+use Rattle.vl_disk.specs.Faults.{HasCause, HasCounted, Rose, never}
 use Rattle.vl_disk.specs.declared.name.Name.{Name}
 use Rattle.vl_disk.specs.declared.watched.Watched.{Ghosts}
 use Rattle.vl_disk.specs.declared.writer.Writer.{Ghosts as Writers}
@@ -31,6 +31,7 @@ use Rattle.vl_steps.specs.Drawing.{DrawsCore, FreshLeavesDisk, IsLentMore, IsNew
 use Rattle.vl_steps.specs.Installing.{numbers_in}
 use Rattle.vl_steps.specs.Merging.{HasMerge, IsJustOpen, made_numbers}
 use Rattle.vl_engine.specs.UnderWay.{IsUnderWay}
+use Rattle.vl_steps.specs.Stepping.{StepFailed}
 use Rattle.vl_steps.specs.declared.fails.StepFail.{StepFail}
 use Rattle.vl_steps.specs.declared.fails.StepFail.TheVariants as fails
 use Rattle.vl_engine_laws.specs.declared.open.OpenMerge.{OpenMerge}
@@ -52,9 +53,10 @@ use Rattle.vl_version.specs.Sources.{tables_in}
 use Rattle.vl_version.specs.declared.base.Base.{Base}
 use Rattle.vl_script_model.specs.Failing.{ByReader, ByWriter, ReaderFailed, beside}
 use Rattle.vl_script_model.specs.Halts.{HaltsByDisk, HaltsByReader}
-use Rattle.vl_replay.specs.Handed.{MayHandIn, are_distinct}
-use Rattle.vl_replay.specs.Rounds.{HasLent, halt_by}
-use Rattle.vl_replay.proofs.CarryingLists.{all_among, all_more, apart_all, more_distinct}
+use Rattle.vl_replay.specs.Handed.{MayHandIn}
+use Rattle.vl_space.specs.Removing.{are_distinct}
+use Rattle.vl_replay.specs.Rounds.{HasLent, halt_by, round_by}
+use Rattle.vl_replay_laws.specs.laws.Merges.Lists.{all_among, all_more, apart_all, more_distinct}
 
 -- ---- what it has
 
@@ -239,6 +241,25 @@ none_tell : {W : Type 0} (w : Writers W) {s : _} (fs : List (Lent W s)) → fs �
     → AllByRecursion (λ (f : Lent W s). IsSome (w.file f.writer)) fs
 none_tell {W} w {s} fs none =
     subst (λ (fs : List (Lent W s)). AllByRecursion (λ (f : Lent W s). IsSome (w.file f.writer)) fs) (sym none) tt
+
+-- What failed at a file that wasn't lent was the disk,
+pub unlent_cause : (A : Type 0) (before now : ℕ) (fail : StepFail) → HasCause before now (StepFailed {T = A} (Err fail))
+    → HasCause before now (HaltsByDisk (round_by fail))
+unlent_cause A before now (fails.Exhausted counter) cause = cause
+unlent_cause A before now fails.NoMemory cause = cause
+unlent_cause A before now (fails.Disk name) cause = cause
+unlent_cause A before now (fails.Halted name) cause = cause
+
+-- and nothing beside it, where the engine ran.
+pub unlent_fault : {H W : Type 0} (before after : Core H) {g : _} (fail : StepFail) → before.front.halted ≡ None
+    → DrawsCore {W = W} before after {g = g} (Err fail) → HaltsByReader (round_by fail) → ⊥
+unlent_fault before after (fails.Exhausted counter) running draws by = by
+unlent_fault before after fails.NoMemory running draws by = by
+unlent_fault before after (fails.Disk name) running draws by = by
+unlent_fault before after (fails.Halted name) running draws by = none_halts name (sym running ∙ draws.0)
+  where
+    none_halts : (name : Name) → None ≡ Some name → ⊥
+    none_halts name e = cc
 
 -- Unless the disk failed at the file that wasn't lent, it was left alone.
 pub unlent_tells : {D H W : Type 0} (g : Ghosts D) (w : Writers W) (before after : Core H) (old new : D) (fail : StepFail)

@@ -30,7 +30,7 @@ use Rattle.vl_replay.specs.declared.tables.Round.TheVariants as rounds
 use Rattle.vl_script_model.specs.Halts.{HaltsByDisk}
 use Rattle.vl_script_model.specs.declared.fails.Halt.{Halt}
 use Rattle.vl_script_model.specs.Sequential.{State}
-use Rattle.vl_replay.proofs.CarryingLists.{drawn_then, next_drawn}
+use Rattle.vl_replay_laws.specs.laws.Merges.Lists.{drawn_then, next_drawn}
 use Rattle.vl_replay.proofs.CarryingTables.{SoFar}
 
 -- ---- a file that is asked for

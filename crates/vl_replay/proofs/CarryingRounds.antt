@@ -34,12 +34,12 @@ use Rattle.vl_script_model.specs.Sequential.{State, history_of}
 use Rattle.vl_replay.specs.declared.tables.Round.{Round}
 use Rattle.vl_replay.specs.declared.tables.Round.TheVariants as rounds
 use Rattle.vl_script_model.specs.declared.fails.Halt.{Halt}
-use Rattle.vl_replay.proofs.CarryingDisk.{rests}
+use Rattle.vl_replay_laws.specs.laws.Merges.Rounds.{rests}
 use Rattle.vl_replay.proofs.CarryingDraws.{Came, Draws, exhausted_came, exhausted_is, exhausted_past, failed_came}
 use Rattle.vl_replay.proofs.CarryingDraws.{failed_fits, failed_name, lent_came, lent_fits, lent_number, never_halted}
 use Rattle.vl_replay.proofs.CarryingDraws.{short_came}
 use Rattle.vl_replay.proofs.CarryingJob.{not_by_disk}
-use Rattle.vl_replay.proofs.CarryingLists.{drawn_none}
+use Rattle.vl_replay_laws.specs.laws.Merges.Lists.{drawn_none}
 use Rattle.vl_script_model.specs.laws.DiskSteps.{IsWatched}
 
 none_one : ◌≡◌ {A = ℕ} 0 1 → ⊥

@@ -31,8 +31,8 @@ use Rattle.vl_replay.specs.declared.tables.Round.{Round}
 use Rattle.vl_replay.specs.declared.tables.Round.TheVariants as rounds
 use Rattle.vl_script_model.specs.declared.fails.Halt.{Halt}
 use Rattle.vl_script_model.specs.declared.fails.Halt.TheVariants as halts
-use Rattle.vl_replay.proofs.CarryingDisk.{draws_then, rests}
-use Rattle.vl_replay.proofs.CarryingLists.{drawn_none, length-from, length-zip, next_drawn, no_longer, one_from, state_then}
+use Rattle.vl_replay_laws.specs.laws.Merges.Rounds.{draws_then, rests}
+use Rattle.vl_replay_laws.specs.laws.Merges.Lists.{drawn_none, length-from, length-zip, next_drawn, no_longer, one_from, state_then}
 use Rattle.vl_script_model.specs.laws.DiskSteps.{IsWatched}
 
 -- what ends by want of memory is that

@@ -1,5 +1,5 @@
 -- What is so of a merge that waits for its install, so that it can be handed in to the engine.
-use Rattle.std.specs.Prelude.{◌≡◌, ℕ, Bool, true, ◌&&◌, not, is_some, List, [], ◌∷◌, Option, IsSome, All}
+use Rattle.std.specs.Prelude.{◌≡◌, ℕ, true, is_some, Option, IsSome, All}
 use Rattle.std.specs.Option.{ForSome, option_map}
 use Rattle.vl_compact.specs.declared.files.Lent.{Lent}
 use Rattle.vl_compact.specs.declared.files.Synced.{Synced}
@@ -9,12 +9,8 @@ use Rattle.vl_disk.specs.declared.writer.Writer.{Ghosts as Writers}
 use Rattle.vl_steps.specs.Installing.{numbers_in}
 use Rattle.vl_engine_laws.specs.declared.open.OpenMerge.{OpenMerge}
 use Rattle.vl_model.specs.Numbers.{has}
+use Rattle.vl_space.specs.Removing.{are_distinct}
 use Rattle.vl_replay_laws.specs.declared.planned.Planned.{Planned}
-
--- no number is there twice
-abbrev pub are_distinct : List ℕ → Bool
-are_distinct [] = true
-are_distinct (n ∷ ns) = not (has n ns) && are_distinct ns
 
 -- It has all of its merge. Its files are ones that were lent to the open merge, each with a number of its own; and its writers tell
 -- them where the disk tells its files.

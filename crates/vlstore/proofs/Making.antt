@@ -6,10 +6,12 @@ use Rattle.std.specs.Prelude.{Bool, true, false, ◌==◌, ◌||◌, Option, Non
 use Rattle.std.specs.List.{AllByRecursion}
 use Rattle.std.specs.Option.{ForSome}
 use Rattle.vl_compact.specs.Keys.{all_named}
-use Rattle.vl_compact.specs.Progress.{KeepsAll, Leaves, Takes, done_by}
+use Rattle.vl_compact.specs.Next.{IsFirstOf}
+use Rattle.vl_compact.specs.Progress.{KeepsAll, Leaves, Takes, done_by, left_behind}
 use Rattle.vl_compact.specs.declared.files.Lent.{Lent}
 use Rattle.vl_compact.specs.declared.files.Synced.{Synced}
 use Rattle.vl_compact.specs.declared.job.Job.{Job}
+use Rattle.vl_compact.specs.declared.next.Next.{Next}
 use Rattle.vl_disk.specs.declared.writer.Writer.{Ghosts as Writers}
 use Rattle.vl_steps.specs.Installing.{numbers_in}
 use Rattle.vl_steps.specs.Merging.{HasAllMerge, HasMerge}
@@ -22,6 +24,7 @@ use Rattle.vl_engine_model.specs.declared.job.Job as laid_job
 use Rattle.vl_engine_model.specs.declared.lock_history.LockEntry.{LockEntry}
 use Rattle.vl_model.specs.Entries.{in_order}
 use Rattle.vl_model.specs.Numbers.{has}
+use Rattle.vl_model.specs.declared.entry.Entry.{Entry}
 use Rattle.vl_version.specs.declared.base.Base.{Base}
 use Rattle.vlstore.specs.Handing.{IfHandedBack, IsHandedInto, IsLentTo, IsUnderWayIn, job_back}
 use Rattle.vlstore.specs.Knowing.{GoesOn, Knows}
@@ -288,3 +291,9 @@ on_same v = record {
   seen = ([], sym (nil_after v.seen));
   own = ([], sym (nil_after v.own));
 }
+
+-- What it goes on with is the first of the same merge, by whichever name that has.
+pub first_planned : {C : Type 0} (left : C → Option (List Entry)) (i j : laid_job.Job) (after : Option (List ℕ)) (next : Next C)
+    → i ≡ j → IsFirstOf left j (left_behind j after) next → IsFirstOf left i (left_behind i after) next
+first_planned left i j after next same first =
+    subst (λ (k : laid_job.Job). IsFirstOf left k (left_behind k after) next) (sym same) first

@@ -63,8 +63,10 @@ module _ {H R W : Type 0} (sure : Type 0) (surely : sure) (writers : Writers W) 
     | inl reads ↦ elim reads.cause [
       | inl memory ↦ memory.is
       | inr rest ↦ elim rest [
-        | inl sources ↦ looked fault (sources.had made.due.looks) (steady reads.after.looks.reader) sources.counted
-        | inr files ↦ taken fault files.had (steady reads.after.files) files.counted
+        | inl sources ↦ looked fault (sources.had made.due.looks) (faults_of reads.before.looks.reader)
+            (faults_of reads.after.looks.reader) (steady reads.after.looks.reader) sources.counted
+        | inr files ↦ taken fault files.had (faults_of reads.before.files) (faults_of reads.after.files) (steady reads.after.files)
+            files.counted
       ]
     ]
     | inr writes ↦ elim writes.cause [
@@ -74,19 +76,19 @@ module _ {H R W : Type 0} (sure : Type 0) (surely : sure) (writers : Writers W) 
     ]
   ]
     where
-      looked : (f : ReadFault) → MayFailOn bytes (tables_in made.job.base.version) f → {before now : ℕ} → NoneCounted now
+      looked : (f : ReadFault) → MayFailOn bytes (tables_in made.job.base.version) f → (before now : ℕ) → NoneCounted now
           → IsCounted (is_disk_fault f) before now → f ≡ read.NoMemory
-      looked read.NoMemory may none counted = refl
-      looked (read.Disk name) may {before} {now} none counted = absurd (none_risen before now none counted)
-      looked (read.Damaged name place) may none counted =
+      looked read.NoMemory may before now none counted = refl
+      looked (read.Disk name) may before now none counted = absurd (none_risen before now none counted)
+      looked (read.Damaged name place) may before now none counted =
           let has = made.due.has.is.base in
           absurd (none_bad bytes (tables_in made.job.base.version) has.tabled has.tables name place may)
 
-      taken : (f : ReadFault) → MayStopIn bytes made.key made.job.inputs.tables.items f → {before now : ℕ} → NoneCounted now
+      taken : (f : ReadFault) → MayStopIn bytes made.key made.job.inputs.tables.items f → (before now : ℕ) → NoneCounted now
           → IsCounted (is_disk_fault f) before now → f ≡ read.NoMemory
-      taken read.NoMemory may none counted = refl
-      taken (read.Disk name) may {before} {now} none counted = absurd (none_risen before now none counted)
-      taken (read.Damaged name place) may none counted =
+      taken read.NoMemory may before now none counted = refl
+      taken (read.Disk name) may before now none counted = absurd (none_risen before now none counted)
+      taken (read.Damaged name place) may before now none counted =
           let has = made.due.has.is in
           absurd (no_damage bytes made.key made.job.inputs.tables.items has.tables name place has.inputs may)
 

@@ -51,7 +51,7 @@ use Rattle.vl_script_model.specs.laws.Betweens.{extends_same}
 use Rattle.vl_script_model.specs.laws.DiskSteps.{IsWatched, opens_again, own_commits, rests_until}
 use Rattle.vl_script_model.specs.laws.HeldDisk.{stored_by}
 use Rattle.vl_script_model.specs.laws.ShownDisk.{shown_stays, stored_exactly}
-use Rattle.vl_replay.proofs.CarryingLists.{next_drawn}
+use Rattle.vl_replay_laws.specs.laws.Merges.Lists.{next_drawn}
 use Rattle.vl_replay.proofs.CarryingRemoved.{LeavesDrawn}
 use Rattle.vl_replay_laws.specs.laws.Merges.Carrying.{halted_leads}
 use Rattle.vl_replay_laws.specs.laws.Merges.Choosing.{behind_for, commits_for, fails_for}

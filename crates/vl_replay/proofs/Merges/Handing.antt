@@ -15,7 +15,8 @@ use Rattle.vl_engine.specs.UnderWay.{IsUnderWay}
 use Rattle.vl_engine_laws.specs.declared.open.OpenMerge.{OpenMerge}
 use Rattle.vl_engine_model.specs.Jobs.{AreDistinct}
 use Rattle.vl_model.specs.Numbers.{has}
-use Rattle.vl_replay.specs.Handed.{CanHandIn, MayHandIn, are_distinct}
+use Rattle.vl_replay.specs.Handed.{CanHandIn, MayHandIn}
+use Rattle.vl_space.specs.Removing.{are_distinct}
 use Rattle.vl_script_model.specs.declared.fails.Halt.{Halt}
 use Rattle.vl_replay_laws.specs.declared.planned.Planned.{Planned}
 

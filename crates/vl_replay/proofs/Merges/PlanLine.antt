@@ -52,7 +52,7 @@ use Rattle.vl_replay_laws.specs.laws.Merges.Choosing.{behind_for, counted_step, 
 use Rattle.vl_replay_laws.specs.laws.Merges.Keeping.{KeepsMerges, same_jobs}
 use Rattle.vl_replay_laws.specs.laws.Merges.Opened.{opened_planned}
 use Rattle.vl_replay_laws.specs.laws.Merges.Planned.{Plans, plan_busy, plan_none, plan_some}
-use Rattle.vl_replay.proofs.CarryingLists.{next_drawn}
+use Rattle.vl_replay_laws.specs.laws.Merges.Lists.{next_drawn}
 use Rattle.vl_replay.proofs.CarryingRemoved.{LeavesDrawn}
 use Rattle.vl_replay_laws.specs.laws.Merges.Planning.{planned_state, whole_is, whole_makes, whole_waits}
 use Rattle.vl_replay_laws.specs.laws.Merges.Waiting.{merges_behind}

@@ -1,4 +1,5 @@
 -- What a line does to the disk, and what a crash leaves meanwhile.
+pub mod Begun
 pub mod Carried
 pub mod Committed
 pub mod Moved

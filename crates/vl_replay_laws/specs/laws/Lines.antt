@@ -1,4 +1,5 @@
 -- Lines as they are carried out, whichever they are.
+pub mod AllRows
 pub mod Passed
 pub mod Ruled
 pub mod Sweeps

@@ -10,3 +10,5 @@ pub mod Carrying
 pub mod Installs
 pub mod Dropping
 pub mod Opened
+pub mod Lists
+pub mod Rounds

@@ -4,7 +4,7 @@ use Rattle.vl_reads.specs.declared.view.View.{View}
 use Rattle.vl_model.specs.History.{contents_at}
 use Rattle.vl_model.specs.Keys.{Row}
 use Rattle.vl_script_model.specs.Contents.{AreRead, rows_at_once}
-use Rattle.vl_replay.proofs.Trials.AllRows.{first_read, rows_are}
+use Rattle.vl_replay_laws.specs.laws.Lines.AllRows.{first_read, rows_are}
 use Rattle.vl_replay.proofs.contents.all_rows.Goals as goal
 
 pub loop-read-init : goal.loop-read-init

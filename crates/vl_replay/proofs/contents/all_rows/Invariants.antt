@@ -3,7 +3,7 @@ use Rattle.std.specs.FinMap.{entries}
 use Rattle.vl_reads.specs.Sees.{SeesAlone}
 use Rattle.vl_model.specs.History.{History, contents_at}
 use Rattle.vl_script_model.specs.Contents.{AreRead}
-use Rattle.vl_replay.proofs.Trials.AllRows.{read_left}
+use Rattle.vl_replay_laws.specs.laws.Lines.AllRows.{read_left}
 use Rattle.vl_replay.proofs.contents.all_rows.Given as goal
 
 -- what the view sees it still sees, and some first rows are read

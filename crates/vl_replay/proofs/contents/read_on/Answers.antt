@@ -7,7 +7,7 @@ use Rattle.vl_model.specs.History.{contents_at}
 use Rattle.vl_model.specs.Keys.{Row}
 use Rattle.vl_model.specs.declared.way.Way.TheVariants.{Up}
 use Rattle.vl_script_model.specs.Contents.{AreRead, rows_at_once}
-use Rattle.vl_replay.proofs.Trials.AllRows.{next_read, rows_are, rows_from}
+use Rattle.vl_replay_laws.specs.laws.Lines.AllRows.{next_read, rows_are, rows_from}
 use Rattle.vl_replay.proofs.contents.read_on.Goals as goal
 
 pub returns-clause-rows : goal.returns-clause-rows

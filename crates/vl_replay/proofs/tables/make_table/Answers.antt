@@ -10,10 +10,11 @@ use Rattle.vl_replay.specs.Rounds.{halt_by}
 use Rattle.vl_replay.specs.declared.tables.Round.{Round}
 use Rattle.vl_replay.proofs.CarryingJob.{filling_failed, filling_sure, fits_kept, fits_same, fits_taken, left_under_way, lent_under_way}
 use Rattle.vl_replay.proofs.CarryingJob.{one_lent, reading_failed, reading_sure, refused_under_way, sound_filling, sound_reading, still_lent}
-use Rattle.vl_replay.proofs.CarryingJob.{unlent_tells}
+use Rattle.vl_replay.proofs.CarryingJob.{unlent_cause, unlent_fault, unlent_tells}
 use Rattle.vl_replay.proofs.CarryingRounds.{ended, filled, is_fresh, unfilled, unlent, unread}
 use Rattle.vl_space.specs.Removing.{Removes}
 use Rattle.vl_replay.proofs.CarryingRemoved.{lent_leaves, unlent_leaves}
+use Rattle.vl_compact.specs.declared.files.Lent.{Lent}
 use Rattle.vl_compact.specs.laws.SureReaders.{still_sure}
 use Rattle.vl_table.specs.declared.block_reader.BlockReader.{BlockReader}
 use Rattle.vl_replay.proofs.tables.make_table.Goals as goal
@@ -107,6 +108,15 @@ returns-in-Err-fresh-clause-rounds g c s j way =
       leaves = c.in-Err-fresh.ensures.leaves (history_of s) s.store.layout;
       within = c.in-Err-fresh.ensures.within;
     }))
+
+pub returns-in-Err-fresh-clause-cause : goal.returns-in-Err-fresh-clause-cause
+returns-in-Err-fresh-clause-cause g c =
+    rw c.refused.ensures (unlent_cause (Lent g.row.D-Writer.Denot g.D.Writer.Writer) _ _ c.in-Err-fresh.fail c.in-Err-fresh.ensures.cause)
+
+pub returns-in-Err-fresh-clause-fault : goal.returns-in-Err-fresh-clause-fault
+returns-in-Err-fresh-clause-fault g c running by =
+    absurd (unlent_fault c.args.engine.now.core c.fresh.new.self.core c.in-Err-fresh.fail running c.in-Err-fresh.ensures.core
+    (rw c.refused.ensures at by))
 
 pub returns-in-Err-fresh-clause-under_way : goal.returns-in-Err-fresh-clause-under_way
 returns-in-Err-fresh-clause-under_way g c lent =

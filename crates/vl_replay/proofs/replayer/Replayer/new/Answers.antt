@@ -4,7 +4,7 @@ use Rattle.vl_replay_laws.specs.laws.Merges.Waiting.{none_merges}
 use Rattle.vl_engine_laws.specs.Found.{IsDurable}
 use Rattle.vl_recover.specs.laws.opening.OneFinding.{opened_not}
 use Rattle.vl_script_model.specs.Sequential.{history_of}
-use Rattle.vl_replay.proofs.Openings.Begun.{opened_holds, opened_passes, opened_stands}
+use Rattle.vl_replay_laws.specs.laws.Disk.Begun.{opened_holds, opened_passes, opened_stands}
 use Rattle.vl_script_model.specs.laws.Recovering.{refused_not}
 use Rattle.vl_script_model.specs.laws.Starting.{at_most}
 use Rattle.vl_space.specs.Removing.{Removes}

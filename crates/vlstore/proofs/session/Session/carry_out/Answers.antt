@@ -1,20 +1,17 @@
 use Rattle.std.proofs.Common.{◌≡◌, List, Option, length, refl, sym, ap, ◌∙◌, subst, arith, inr}
 use Rattle.std.specs.Prelude.{true, IfNone, IsSome}
-use Rattle.vl_compact.specs.Next.{IsFirstOf}
-use Rattle.vl_compact.specs.Progress.{left_behind}
 use Rattle.vl_compact.specs.laws.ReadLaws.{read_whole}
 use Rattle.vl_compact.specs.declared.job.Job.{Job}
 use Rattle.vl_disk.specs.DiskState.{new_file}
 use Rattle.vl_steps.specs.Merging.{HasAllMerge, fresh_outcome}
 use Rattle.vl_steps.specs.laws.SameJobs.{first_same, next_same, read_same}
 use Rattle.vl_engine_model.specs.Rulings.Fresh.{fresh_ruling}
-use Rattle.vl_engine_model.specs.declared.job.Job as laid_job
 use Rattle.vl_version.specs.Bases as bases
 use Rattle.vl_version.specs.declared.base.Base.{Base}
 use Rattle.vlstore.specs.Entries.{fresh_entry}
 use Rattle.vlstore.specs.Merging.{IsChange}
 use Rattle.vlstore.proofs.Drawing.{some_is}
-use Rattle.vlstore.proofs.Making.{all_made, asked_way, left_way, looked_way, on_and_on, still, taken_way}
+use Rattle.vlstore.proofs.Making.{all_made, asked_way, first_planned, left_way, looked_way, on_and_on, still, taken_way}
 use Rattle.vlstore.proofs.Merged.{did_on, did_same, fresh_changes, own_stays, same_own, stepped_so}
 use Rattle.vlstore.proofs.Refused.{drawn_in, fill_fails, fits_at, left_after, read_fails, same_after, short_of_memory, took_one, unlent, unread}
 use Rattle.vlstore.specs.Refused.{WasDrawn}
@@ -95,7 +92,7 @@ making-preserved g c =
     (own_stays c.making.self c.fresh.new.self inv.way.planned on.session
     (stepped_so IsChange c.making.self c.fresh.new.self fresh_ruling fresh_entry (fresh_outcome c.fresh.result)
     (λ s l h. fresh_changes s l h (fresh_outcome c.fresh.result)) (c.fresh.ensures.steps before)) inv.way.own) in
-    subst (λ (j : laid_job.Job). IsFirstOf _ j (left_behind j c.ready.new.self.after) c.in-Some.next) (sym same)
+    first_planned _ way.planned inv.way.planned c.ready.new.self.after c.in-Some.next same
     ((c.in_ok-next.ensures.answers inv.way.planned (inv.fits before) (inv.way.has_merge before)).first c.in-Some.next c.in-Some.is) in
     record {
       on = on_and_on c.args.self.now c.making.self c.fresh.new.self inv.on on;

@@ -30,7 +30,7 @@ use Rattle.vl_script_model.specs.Sequential.{State, history_of}
 use Rattle.vl_script_model.specs.Stopped.{StopsStep}
 use Rattle.vl_script_model.specs.Stored.{IsStopped, IsStored}
 use Rattle.vl_script_model.specs.declared.fails.Halt.{Halt}
-use Rattle.vl_replay.proofs.CarryingLists.{calls_then, drawn_none, state_then}
+use Rattle.vl_replay_laws.specs.laws.Merges.Lists.{calls_then, drawn_none, state_then}
 use Rattle.vl_script_model.specs.laws.Betweens.{extends_itself}
 use Rattle.vl_script_model.specs.laws.DiskSteps.{IsWatched, opens_again, rests_until}
 use Rattle.vl_script_model.specs.laws.ShownDisk.{shown_stays, stored_exactly}

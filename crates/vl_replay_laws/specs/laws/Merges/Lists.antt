@@ -10,7 +10,7 @@ use Rattle.vl_engine_model.specs.Rulings.Fresh.{drawn}
 use Rattle.vl_engine_model.specs.declared.layout.Layout.{Layout}
 use Rattle.vl_model.specs.Numbers.{has}
 use Rattle.vl_replay_laws.specs.Drawn.{drawn_all, drawn_state, numbers_from}
-use Rattle.vl_replay.specs.Handed.{are_distinct}
+use Rattle.vl_space.specs.Removing.{are_distinct}
 use Rattle.vl_script_model.specs.Sequential.{State}
 
 suc_is : (n : ℕ) → suc n ≡ n + 1
