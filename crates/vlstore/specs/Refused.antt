@@ -73,18 +73,18 @@ module _ (v w : Knows) where
   WasRaced = (key : List ℕ) × (number : ℕ) × WasRefused (install.Raced key number)
 
   module _ {H R W : Type 0} (writers : Writers W) (bytes : H → Option (List ℕ)) (faults_of : R → ℕ) where
-      -- The merge that the ruling on plans had is this one, and what it looks up is told.
-      pub record IsDue (job : Job (Base H R) H W writers) : Type 0 where
-        pub planned : laid_job.Job
-        pub due : Between v w (λ l h. (plan_ruling l h).answer ≡ Some planned)
-        pub has : HasMerge writers bytes job planned
-        pub looks : FitsReaders bytes job
+    -- The merge that the ruling on plans had is this one, and what it looks up is told.
+    pub record IsDue (job : Job (Base H R) H W writers) : Type 0 where
+      pub planned : laid_job.Job
+      pub due : Between v w (λ l h. (plan_ruling l h).answer ≡ Some planned)
+      pub has : HasMerge writers bytes job planned
+      pub looks : FitsReaders bytes job
 
-      -- The inputs of that merge were read whole.
-      pub record HasReadAll : Type 0 where
-        pub job : Job (Base H R) H W writers
-        pub due : IsDue job
-        pub read : AreReadWhole bytes job.inputs.tables.items
+    -- The inputs of that merge were read whole.
+    pub record HasReadAll : Type 0 where
+      pub job : Job (Base H R) H W writers
+      pub due : IsDue job
+      pub read : AreReadWhole bytes job.inputs.tables.items
 
   module _ {H R W : Type 0} (sure : Type 0) (writers : Writers W) (bytes : H → Option (List ℕ)) (faults_of : R → ℕ)
     where

@@ -12,6 +12,9 @@ impl Unfailing for SureDisk {
     ghost use Rattle.vl_disk.specs.laws.Counting.{never_counted, zero_counted};
     ghost use Rattle.vl_mem.specs.SureDisk.{faults_on, never_fails};
 
-    ghost unfailing = { record { disks = λ disk. zero_counted (faults_on disk) (never_fails disk);
-        readers = λ reader. never_counted; writers = λ writer. never_counted } };
+    ghost unfailing = { record {
+      disks = λ disk. zero_counted (faults_on disk) (never_fails disk);
+      readers = λ reader. never_counted;
+      writers = λ writer. never_counted;
+    } };
 }

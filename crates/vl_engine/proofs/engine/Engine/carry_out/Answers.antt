@@ -301,7 +301,7 @@ returns-in_default-clause-removes g c h x o is stands fits is_open has looks rem
           (handed_in g.D.Watched g.D.Writer.Writer c.making.self.disk c.making.self.core.front.halted c.making.self.merging c.making.job
           c.ready.new.self c.making.invariant.way c.ready.ensures.kept (subst (λ (o : Option _). IfNone o (c.ready.new.self.ended ≡ true)) c.in_default.is c.in_ok-next.ensures.ended))
           (subst (λ (x : Option _). IfNone x (HasAllMerge g.D.Writer.Writer g.D.Held.HeldFile.bytes c.ready.new.self o.job)) c.in_default.is
-    (c.in_ok-next.ensures.answers o.job m.fits m.has).all);
+          (c.in_ok-next.ensures.answers o.job m.fits m.has).all);
       removes = kept;
     }
 
