@@ -251,12 +251,12 @@ unlent_cause A before now (fails.Disk name) cause = cause
 unlent_cause A before now (fails.Halted name) cause = cause
 
 -- and nothing beside it, where the engine ran.
-pub unlent_fault : {H W : Type 0} (before after : Core H) {g : _} (fail : StepFail) → before.front.halted ≡ None
-    → DrawsCore {W = W} before after {g = g} (Err fail) → HaltsByReader (round_by fail) → ⊥
-unlent_fault before after (fails.Exhausted counter) running draws by = by
-unlent_fault before after fails.NoMemory running draws by = by
-unlent_fault before after (fails.Disk name) running draws by = by
-unlent_fault before after (fails.Halted name) running draws by = none_halts name (sym running ∙ draws.0)
+pub unlent_fault : {H W : Type 0} (w : Writers W) (before after : Core H) (fail : StepFail) → before.front.halted ≡ None
+    → DrawsCore {W = W} before after {g = w} (Err fail) → HaltsByReader (round_by fail) → ⊥
+unlent_fault w before after (fails.Exhausted counter) running draws by = by
+unlent_fault w before after fails.NoMemory running draws by = by
+unlent_fault w before after (fails.Disk name) running draws by = by
+unlent_fault w before after (fails.Halted name) running draws by = none_halts name (sym running ∙ draws.0)
   where
     none_halts : (name : Name) → None ≡ Some name → ⊥
     none_halts name e = cc

@@ -115,7 +115,7 @@ returns-in-Err-fresh-clause-cause g c =
 
 pub returns-in-Err-fresh-clause-fault : goal.returns-in-Err-fresh-clause-fault
 returns-in-Err-fresh-clause-fault g c running by =
-    absurd (unlent_fault c.args.engine.now.core c.fresh.new.self.core c.in-Err-fresh.fail running c.in-Err-fresh.ensures.core
+    absurd (unlent_fault g.D.Writer.Writer c.args.engine.now.core c.fresh.new.self.core c.in-Err-fresh.fail running c.in-Err-fresh.ensures.core
     (rw c.refused.ensures at by))
 
 pub returns-in-Err-fresh-clause-under_way : goal.returns-in-Err-fresh-clause-under_way
