@@ -1,4 +1,5 @@
 pub mod AtAnswer
+pub mod Changes
 pub mod Decides
 pub mod Garbage
 pub mod Jobs

@@ -2,6 +2,7 @@
 pub mod Aside
 pub mod Batches
 pub mod Beside
+pub mod ChangeLaws
 pub mod CutAgain
 pub mod Drawn
 pub mod EachRuling
@@ -15,6 +16,7 @@ pub mod JobTables
 pub mod Justified
 pub mod Keeps
 pub mod KeyOrder
+pub mod KnownVersions
 pub mod LevelsKept
 pub mod Lists
 pub mod Lives
@@ -40,3 +42,4 @@ pub mod TidyRulings
 pub mod TidySteps
 pub mod WellInstalled
 pub mod WellStocked
+pub mod WholeLaws

@@ -3,15 +3,16 @@ use Rattle.std.specs.Prelude.{◌≡◌, ◌+◌, ◌<◌, ◌^◌, ◌∷◌, �
 use Rattle.byteorder.specs.Endian.{big_bytes}
 use Rattle.sha2.specs.Sha256.{sha256}
 use Rattle.vl_frame.specs.declared.kinds.FileKind.{FileKind}
-use Rattle.vl_frame.specs.declared.kinds.FileKind.TheVariants.{Log, Table, Manifest}
+use Rattle.vl_frame.specs.declared.kinds.FileKind.TheVariants.{Log, Table, Manifest, Backup}
 use Rattle.vl_frame.specs.declared.kinds.FrameKind.{FrameKind}
-use Rattle.vl_frame.specs.declared.kinds.FrameKind.TheVariants.{Commit, Move, Block, Index, Footer, Edits, Filter}
+use Rattle.vl_frame.specs.declared.kinds.FrameKind.TheVariants.{Commit, Move, Block, Index, Footer, Edits, Filter, Changes, BackupEnd}
 
 -- the number that stands for a file's kind where a check is taken
 abbrev pub file_code : FileKind → ℕ
 file_code Log = 1
 file_code Table = 2
 file_code Manifest = 3
+file_code Backup = 4
 
 -- the byte that stands for a frame's kind
 abbrev pub frame_code : FrameKind → ℕ
@@ -22,6 +23,8 @@ frame_code Index = 4
 frame_code Footer = 5
 frame_code Edits = 6
 frame_code Filter = 9
+frame_code Changes = 7
+frame_code BackupEnd = 8
 
 -- the kind of file that frames of a kind stand in
 abbrev pub file_of : FrameKind → FileKind
@@ -32,6 +35,8 @@ file_of Index = Table
 file_of Footer = Table
 file_of Edits = Manifest
 file_of Filter = Table
+file_of Changes = Backup
+file_of BackupEnd = Backup
 
 -- where a frame stands: its file's kind and number, and its place in the file
 abbrev pub place_bytes : FileKind → ℕ → ℕ → List ℕ

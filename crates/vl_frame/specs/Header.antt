@@ -2,13 +2,14 @@
 use Rattle.std.specs.Prelude.{◌≡◌, ◌<◌, ◌≤◌, ◌^◌, ◌++◌, List, codes, length, ℕ}
 use Rattle.byteorder.specs.Endian.{big_bytes}
 use Rattle.vl_frame.specs.declared.kinds.FileKind.{FileKind}
-use Rattle.vl_frame.specs.declared.kinds.FileKind.TheVariants.{Log, Table, Manifest}
+use Rattle.vl_frame.specs.declared.kinds.FileKind.TheVariants.{Log, Table, Manifest, Backup}
 
 -- the four letters that files of a kind begin with
 abbrev pub letters : FileKind → List ℕ
 letters Log = codes "VLOG"
 letters Table = codes "VTAB"
 letters Manifest = codes "VMAN"
+letters Backup = codes "VBAK"
 
 -- The header of the file of this kind with this number, in this format: the letters, and the format, the
 -- number and zero in four bytes each.

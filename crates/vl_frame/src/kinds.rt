@@ -12,6 +12,8 @@ pub enum FileKind {
     Table,
     /// Which files there are.
     Manifest,
+    /// What was changed, as a stream that stands in no folder.
+    Backup,
 }
 
 /// What a frame's body is.
@@ -31,6 +33,10 @@ pub enum FrameKind {
     Edits,
     /// Bits by which keys are known that a table hasn't got.
     Filter,
+    /// Some of what was changed, in a backup.
+    Changes,
+    /// The last frame of a backup.
+    BackupEnd,
 }
 
 impl FileKind {
@@ -42,6 +48,7 @@ impl FileKind {
             FileKind::Log => 1,
             FileKind::Table => 2,
             FileKind::Manifest => 3,
+            FileKind::Backup => 4,
         }
     }
 
@@ -53,6 +60,7 @@ impl FileKind {
             FileKind::Log => *b"VLOG",
             FileKind::Table => *b"VTAB",
             FileKind::Manifest => *b"VMAN",
+            FileKind::Backup => *b"VBAK",
         }
     }
 }
@@ -68,6 +76,7 @@ impl FrameKind {
                 FileKind::Table
             }
             FrameKind::Edits => FileKind::Manifest,
+            FrameKind::Changes | FrameKind::BackupEnd => FileKind::Backup,
         }
     }
 
@@ -89,6 +98,8 @@ impl FrameKind {
             FrameKind::Index => 4,
             FrameKind::Footer => 5,
             FrameKind::Edits => 6,
+            FrameKind::Changes => 7,
+            FrameKind::BackupEnd => 8,
             FrameKind::Filter => 9,
         }
     }
@@ -105,6 +116,8 @@ impl FrameKind {
             4 => Some(FrameKind::Index),
             5 => Some(FrameKind::Footer),
             6 => Some(FrameKind::Edits),
+            7 => Some(FrameKind::Changes),
+            8 => Some(FrameKind::BackupEnd),
             9 => Some(FrameKind::Filter),
             _ => None,
         }

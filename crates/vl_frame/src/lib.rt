@@ -8,9 +8,9 @@
 //! another file, or that stands at another place, is none, even where all its bytes are whole, unless its check
 //! matches there by chance.
 //!
-//! | File | 1, a log | 2, a table | 3, a manifest |
-//! |---|---|---|---|
-//! | Frames | 1 commit, 2 move | 3 block, 4 index, 5 footer, 9 filter | 6 edits |
+//! | File | 1, a log | 2, a table | 3, a manifest | 4, a backup |
+//! |---|---|---|---|---|
+//! | Frames | 1 commit, 2 move | 3 block, 4 index, 5 footer, 9 filter | 6 edits | 7 changes, 8 end |
 //!
 //! A frame stands at a place of a file if the bytes from there on begin with the spelling of one, and if its
 //! kind belongs to the file's. What is inside a body is the matter of the crates that read it.

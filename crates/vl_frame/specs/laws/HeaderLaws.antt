@@ -2,7 +2,7 @@
 use Rattle.std.proofs.Common.{◌≡◌, ℕ, cond, nat_eq, List, [], ◌∷◌, ◌++◌, length, get_or, refl, sym, ap, ◌∙◌, append_assoc, arith}
 use Rattle.byteorder.specs.Endian.{big_bytes}
 use Rattle.vl_frame.specs.declared.kinds.FileKind.{FileKind}
-use Rattle.vl_frame.specs.declared.kinds.FileKind.TheVariants.{Log, Table, Manifest}
+use Rattle.vl_frame.specs.declared.kinds.FileKind.TheVariants.{Log, Table, Manifest, Backup}
 use Rattle.vl_frame.specs.Header.{HasFormat, IsHeader, IsHeaderApart, header_bytes, letters}
 use Rattle.vl_frame.specs.laws.NumberLaws.{one_number, same_front}
 
@@ -15,21 +15,24 @@ pub length-header_bytes : (kind : FileKind) (format number : ℕ) → length (he
 length-header_bytes Log format number = refl
 length-header_bytes Table format number = refl
 length-header_bytes Manifest format number = refl
+length-header_bytes Backup format number = refl
 
 pub length-letters : (kind : FileKind) → length (letters kind) ≡ 4
 length-letters Log = refl
 length-letters Table = refl
 length-letters Manifest = refl
+length-letters Backup = refl
 
 -- the second letter tells the kind
 kind_of : ℕ → FileKind
-kind_of n = cond (nat_eq n 76) Log (cond (nat_eq n 84) Table Manifest)
+kind_of n = cond (nat_eq n 76) Log (cond (nat_eq n 84) Table (cond (nat_eq n 66) Backup Manifest))
 
 kind_of-letters : (kind : FileKind) → kind_of (get_or (letters kind) 1 0) ≡ kind
 unfolding kind_of
 kind_of-letters Log = refl
 kind_of-letters Table = refl
 kind_of-letters Manifest = refl
+kind_of-letters Backup = refl
 
 pub one_kind : (kind other : FileKind) → letters kind ≡ letters other → kind ≡ other
 one_kind kind other e = sym (kind_of-letters kind) ∙ ap (λ (l : List ℕ). kind_of (get_or l 1 0)) e ∙ kind_of-letters other

@@ -6,14 +6,15 @@ use Rattle.sha2.specs.Sha256.{sha256}
 use Rattle.sha2.proofs.Facts256.{length-sha256}
 use Rattle.vl_frame.specs.declared.kinds.FileKind.{FileKind}
 use Rattle.vl_frame.specs.declared.kinds.FrameKind.{FrameKind}
-use Rattle.vl_frame.specs.declared.kinds.FrameKind.TheVariants.{Commit, Move, Block, Index, Footer, Edits, Filter}
+use Rattle.vl_frame.specs.declared.kinds.FrameKind.TheVariants.{Commit, Move, Block, Index, Footer, Edits, Filter, Changes, BackupEnd}
 use Rattle.vl_frame.specs.Frame.{frame_code, head_bytes, spelling, check_of, frame_bytes, IsSpelled, file_of, frame_length, place_bytes}
 use Rattle.vl_frame.specs.laws.NumberLaws.{one_number, same_front}
 use Rattle.vl_frame.specs.FrameFields.{IsApart}
 
 kind_at : ℕ → FrameKind
 kind_at n = cond (nat_eq n 1) Commit
-    (cond (nat_eq n 2) Move (cond (nat_eq n 3) Block (cond (nat_eq n 4) Index (cond (nat_eq n 5) Footer (cond (nat_eq n 6) Edits Filter)))))
+    (cond (nat_eq n 2) Move (cond (nat_eq n 3) Block (cond (nat_eq n 4) Index (cond (nat_eq n 5) Footer (cond (nat_eq n 6) Edits
+    (cond (nat_eq n 7) Changes (cond (nat_eq n 8) BackupEnd Filter)))))))
 
 kind_at-code : (kind : FrameKind) → kind_at (frame_code kind) ≡ kind
 unfolding kind_at
@@ -24,6 +25,8 @@ kind_at-code Index = refl
 kind_at-code Footer = refl
 kind_at-code Edits = refl
 kind_at-code Filter = refl
+kind_at-code Changes = refl
+kind_at-code BackupEnd = refl
 
 one_code : (kind kind' : FrameKind) → frame_code kind ≡ frame_code kind' → kind ≡ kind'
 one_code kind kind' e = sym (kind_at-code kind) ∙ ap kind_at e ∙ kind_at-code kind'
