@@ -1,14 +1,19 @@
 -- A begin is answered as the ruling has it.
-use Rattle.std.specs.Prelude.{◌≡◌, ◌≤◌, ℕ, Bool, true, false, nat_le, if◌then◌else◌, List, length, IfOk, IsErrAnd, OnErr, Option}
-use Rattle.std.specs.Prelude.{Result, Err, Ok}
-use Rattle.std.proofs.Common.{sym, ap, subst, ◌∙◌, refl, arith}
+use Rattle.std.specs.Prelude.{◌≡◌, ◌≤◌, ◌+◌, ℕ, Bool, true, false, nat_le, if◌then◌else◌, List, length}
+use Rattle.std.specs.Prelude.{IfOk, IsErrAnd, OnErr, Option, None, Result, Err, Ok}
+use Rattle.std.proofs.Common.{sym, ap, subst, ◌∙◌, refl, arith, inl, inr, ⊎_elim}
 use Rattle.std.proofs.lemmas.List.{length-map}
 use Rattle.std.proofs.lemmas.Bool.Decides.{nat_tests}
 use Rattle.vl_steps.specs.Answers.{begin_outcome, view_outcome}
+use Rattle.vl_reads.specs.Changes.{ShowsChanges, TellsChanges}
 use Rattle.vl_reads.specs.Past.{ShowsPast, beginning}
 use Rattle.vl_engine.specs.Beginning.{past_now}
+use Rattle.vl_engine.proofs.Lawful.{sources_lawful}
+use Rattle.vl_engine_laws.specs.MayStep.{AreLogFiles}
 use Rattle.vl_engine_laws.specs.Pointed.{layout_logs}
-use Rattle.vl_engine_laws.specs.Represents.{Fronts, StandsFor}
+use Rattle.vl_disk.specs.DiskState.{DiskState}
+use Rattle.vl_engine_laws.specs.Represents.{Fronts, Represents, StandsFor}
+use Rattle.vl_manifest.specs.declared.state.ManifestState.{ManifestState}
 use Rattle.vl_reads.specs.Sees.{SeesAlone, ShowsAt}
 use Rattle.vl_engine_laws.specs.declared.kept.Core.{Core}
 use Rattle.vl_reads.specs.declared.past.Past.{Past}
@@ -26,14 +31,15 @@ use Rattle.vl_engine_model.specs.Ruling.{Ruling, leaving}
 use Rattle.vl_engine_model.specs.Rulings.Begin.{BeginAnswer, Begun, TooMany, begin_ruling, begun}
 use Rattle.vl_engine_model.specs.Shows.{Shows}
 use Rattle.vl_engine_model.specs.Sources.{floor, sources}
+use Rattle.vl_engine_model.specs.Spared.{AreSpared, Passes}
 use Rattle.vl_engine_model.specs.Tickets.{free_ticket, tickets_of}
 use Rattle.vl_engine_model.specs.declared.layout.Layout.{Layout}
 use Rattle.vl_engine_model.specs.declared.live.Live.{Live}
 use Rattle.vl_engine_model.specs.laws.LowShows.{floor-up}
 use Rattle.vl_model.specs.History.{History, last_number}
 use Rattle.vl_model.specs.Limits.{max_live}
-use Rattle.vl_model.specs.Numbers.{low_of}
-use Rattle.vl_model.specs.Versions.{low, versions_in}
+use Rattle.vl_model.specs.Numbers.{low_of, nth_below}
+use Rattle.vl_model.specs.Versions.{low, versions, versions_in}
 use Rattle.vl_oracle.specs.LiveTickets.{LiveTickets}
 use Rattle.vl_oracle.specs.LiveTickets as oracle
 use Rattle.vl_oracle.specs.declared.begin_fail.BeginFail.{BeginFail}
@@ -166,6 +172,14 @@ began_as core h l is past same =
     ∙ ap (λ (n : ℕ). record { floor = floor l h; keep = n; since = core.back.state.since }) is.keep
     ∙ ap (λ (n : ℕ). record { floor = floor l h; keep = l.keep; since = n }) is.since
 
+-- ---- which deletions are gone
+
+-- What is kept of them is the layout's, unless the engine is halted.
+pub gone_kept : {H : Type 0} (bytes : H → Option (List ℕ)) (core : Core H) (told : Option DiskState) (h : History) (l : Layout)
+    → Represents bytes core told h l → l.halted ≡ None → core.back.state.gone ≡ l.gone
+gone_kept bytes core told h l is going =
+    let held = is.held going in ap (λ (s : ManifestState). s.gone) held.back_is.state ∙ held.is_base.gone
+
 -- ---- what is seen
 
 -- Sources that show the history up to its last number are seen there, through a reader that keeps no block of other files.
@@ -187,6 +201,35 @@ module _ {H : Type 0} (bytes : H → Option (List ℕ)) (core : Core H) (h : His
           (are_of h (sources l) is.tidy.versions) is.spared.past);
       floor = subst (λ (b : Beginning). b.floor ≤ last_number h) (sym began) (floor-up l h);
     }
+
+    -- The sources lack no change above `gone`, where that is at least the layout's.
+    whole_past : l.gone ≤ core.back.state.gone → (key : List ℕ)
+        → AreSpared (versions h key) (versions_in (sources l) key) (last_number h) past.floor 1 past.gone
+    whole_past up key n within there missing =
+        let gone = ap (λ (p : Past). p.gone) same in
+        ⊎_elim (λ (old : n ≤ l.gone). inl (omega (arith, old, up, gone)))
+        (λ (p : Passes n (nth_below (versions_in (sources l) key) (floor l h + 1) 1)).
+        inr (subst (λ (b : Beginning). Passes n (nth_below (versions_in (sources l) key) (b.floor + 1) 1)) (sym began) p))
+        (is.spared.whole key n within there missing)
+
+    told_version : AreLogFiles l → l.gone ≤ core.back.state.gone → ShowsChanges bytes core.version past (last_number h) h
+    told_version files up = record {
+      entries_of = sources l;
+      logs = layout_logs l;
+      has = laid_entries bytes core.version l is.has h is.tidy;
+      shows = λ key. (shows_last (layout_logs l) l h is.tidy.shows).values key (last_number h) (omega arith) (omega arith);
+      of = are_of h (sources l) is.tidy.versions;
+      whole = whole_past up;
+      floor = subst (λ (b : Beginning). b.floor ≤ last_number h) (sym began) (floor-up l h);
+      lawful = sources_lawful bytes core.version l is.has files;
+      known = omega arith;
+    }
+
+  pub tells_now : {R : Type 0} (view : View H R) → view.version ≡ core.version → view.number ≡ last_number h
+      → view.past ≡ past_now core → AreLogFiles l → l.gone ≤ core.back.state.gone → TellsChanges bytes view h
+  tells_now view same last past files up =
+      subst (λ (v : Version H). ShowsChanges bytes v view.past view.number h) (sym same)
+      (subst (λ (n : ℕ). ShowsChanges bytes core.version view.past n h) (sym last) (told_version view.past past files up))
 
   sees_version : (past : Past) → past ≡ past_now core → ShowsAt bytes core.version past h (last_number h)
   sees_version past same = record {

@@ -4,6 +4,7 @@ mod Collected
 mod DrawRemoved
 mod KeepRemoved
 pub mod LeftRemoved
+mod Lawful
 mod Leveled
 mod MergeRemoved
 mod MergedExits

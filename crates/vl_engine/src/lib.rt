@@ -14,7 +14,7 @@ pub use engine::Engine;
 pub use fails::MergeFail;
 pub use vl_oracle::BeginFail;
 pub use vl_reads::{
-    AtFail, Found, ReadFail, ReadFault, Rows, SetFail, Txn, View, what_is_seen_stays,
+    AtFail, Changes, Found, ReadFail, ReadFault, Rows, SetFail, Txn, View, what_is_seen_stays,
 };
 pub use vl_recover::{OpenError, OpenFail};
 pub use vl_space::{PickFail, SweepFail};

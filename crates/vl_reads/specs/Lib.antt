@@ -1,3 +1,4 @@
+pub mod Changes
 pub mod Past
 pub mod Reading
 pub mod Refusing

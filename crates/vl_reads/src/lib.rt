@@ -15,7 +15,7 @@ pub use past::Past;
 pub use txn::Txn;
 pub use view::View;
 pub use vl_txn::SetFail;
-pub use vl_version::Found;
+pub use vl_version::{Changes, Found};
 
 /// The rows of a scan: keys with their values.
 pub type Rows = std::vec::Vec<(vl_model::Key, vl_model::Value)>;

@@ -1,6 +1,7 @@
 //! A view: a snapshot of the store, which is read alone.
 
 mod begin;
+mod changes;
 mod read;
 
 use crate::past::Past;

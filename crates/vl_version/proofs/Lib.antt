@@ -1,4 +1,5 @@
 mod AnswerLaws
+mod ChangeRows
 mod CutLaws
 mod FaultLaws
 mod FrozenLaws
@@ -10,6 +11,7 @@ mod NearLaws
 mod looking
 mod marking
 mod NewestLaws
+mod NextChange
 mod NthLaws
 mod OldestLaws
 mod OverLaws
@@ -21,9 +23,11 @@ mod RowLaws
 mod ScanLaws
 mod SeenCursor
 mod SharedLaws
+mod SinceLaws
 mod StandingLaws
 mod TableSources
 mod TakeLaws
 mod Telling
 mod WholeLaws
+mod WholeSince
 mod Winning

@@ -33,7 +33,7 @@ abbrev pub of_key : List ℕ → List Entry → List Entry
 of_key key es = filter (λ (e : Entry). eq_by_cmp key_cmp key e.key) es
 
 -- no key stands there twice
-abbrev AreOnce : List Entry → Type 0
+abbrev pub AreOnce : List Entry → Type 0
 AreOnce es = (key : List ℕ) → length (of_key key es) ≤ 1
 
 -- entries as the way up goes through them
@@ -129,7 +129,7 @@ map-reverse f (e ∷ es) =
 
 -- ---- keys rise
 
-both_parts : (a b : Bool) → T a → T b → T (a && b)
+pub both_parts : (a b : Bool) → T a → T b → T (a && b)
 both_parts true b p q = q
 both_parts false b p q = absurd p
 
@@ -137,23 +137,23 @@ none_behind : (e : Entry) (es : List Entry) → length (e ∷ es) ≤ 1 → es �
 none_behind e [] le = refl
 none_behind e (f ∷ fs) le = absurd (omega (arith, le))
 
-once_later : (e : Entry) (es : List Entry) → AreOnce (e ∷ es) → AreOnce es
+pub once_later : (e : Entry) (es : List Entry) → AreOnce (e ∷ es) → AreOnce es
 once_later e es once key = by (eq_by_cmp key_cmp key e.key) (once key)
   where
     by : (b : Bool) → length (cond b (e ∷ of_key key es) (of_key key es)) ≤ 1 → length (of_key key es) ≤ 1
     by true le = omega (arith, le)
     by false le = le
 
-no_other : (e : Entry) (es : List Entry) → AreOnce (e ∷ es) → of_key e.key es ≡ []
+pub no_other : (e : Entry) (es : List Entry) → AreOnce (e ∷ es) → of_key e.key es ≡ []
 no_other e es once =
     none_behind e (of_key e.key es)
     (subst (λ b. length (cond b (e ∷ of_key e.key es) (of_key e.key es)) ≤ 1) (ap is_eq (key_tied e.key)) (once e.key))
 
 -- each of these keys is above the key
-abbrev AreAbove : List ℕ → List Entry → Type 0
+abbrev pub AreAbove : List ℕ → List Entry → Type 0
 AreAbove key es = AllByRecursion (λ (f : Entry). key_cmp key f.key ≡ Less) es
 
-all_above : (e : Entry) (es : List Entry) → IsFirst Up e es → of_key e.key es ≡ [] → AreAbove e.key es
+pub all_above : (e : Entry) (es : List Entry) → IsFirst Up e es → of_key e.key es ≡ [] → AreAbove e.key es
 all_above e [] first none = tt
 all_above e (f ∷ fs) first none = by (λ rest. all_above e fs first.1 rest) (key_cmp e.key f.key) refl first.0 none
   where

@@ -1,5 +1,6 @@
 pub mod Answers
 pub mod Bases
+pub mod Changes
 pub mod Faults
 pub mod Flushing
 pub mod Gathered

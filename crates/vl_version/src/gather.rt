@@ -1,4 +1,4 @@
-//! The sources of a scan, cut to its interval.
+//! The sources of a scan, cut to its interval, and those of a version alone.
 
 ghost use Rattle.std.specs.Prelude.{◌≡◌, ◌++◌, [], Bool, List, map, IfOk, OnOk};
 ghost use Rattle.std.specs.FinMap.{entries};
@@ -7,8 +7,10 @@ ghost use Rattle.vl_model.specs.Cutting.{joined};
 ghost use Rattle.vl_model.specs.Reads.{bound};
 ghost use Rattle.vl_model.specs.declared.entry.Entry.{Entry};
 ghost use Rattle.vl_model.specs.declared.span.Span.{Span};
+ghost use Rattle.vl_model.specs.declared.way.Way.TheVariants.{Up};
 ghost use Rattle.vl_table.specs.OfTables.{AreOf};
 ghost use Rattle.vl_table.specs.declared.table.Table.{Table};
+ghost use Rattle.vl_version.specs.Changes.{everywhere};
 ghost use Rattle.vl_version.specs.Gathered.{Adds, IsQuiet, TellWinners, span_of};
 ghost use Rattle.vl_version.specs.Naming.{FailWithin};
 ghost use Rattle.vl_version.specs.Own.{own_entries};
@@ -20,10 +22,10 @@ ghost use Rattle.vl_version.specs.levels.LevelsLooked.{AreInOrder, tables_of};
 
 mod tables;
 
-use crate::Behind;
 use crate::own::OwnCursor;
 use crate::source::Source;
 use crate::wanted::Wanted;
+use crate::{Behind, Levels};
 use std::alloc::{AllocError, Global};
 use tables::add_levels;
 use vl_disk::{HeldFile, Reader};
@@ -64,6 +66,32 @@ pub fn sources_within<'a, H: HeldFile, R: Reader<Held = H> + Drop>(
     add_memtable(&mut sources, active, &span, wanted.way)?;
     add_frozen(&mut sources, &behind.frozen, &span, wanted.way)?;
     add_levels(alloc, &mut sources, &behind.levels, &span, wanted.way)?;
+    Ok(sources)
+}
+
+/// Cursors over the memtables and these tables, from the least key on, the newest source first.
+pub fn stored_sources<'a, H: HeldFile, R: Reader<Held = H> + Drop>(
+    alloc: Global,
+    active: &Memtable,
+    frozen: &[FrozenLog],
+    levels: &Levels<H>,
+) -> Result<Vec<Source<'a, H, R>>, AllocError>
+    ensures winners { IfOk result (λ sources. (tabled : List (List Entry))
+        → AreOf H.bytes (tables_of levels.now) tabled → AreInOrder levels.now
+        → TellWinners H.bytes everywhere Up ((active.now.entries ++ held_entries frozen.now) ++ joined tabled) sources.items) }
+    ensures faults { IfOk result (λ sources. FailWithin H.bytes everywhere (tables_of levels.now) sources.items) }
+    ensures reads { IfOk result (λ sources. (is_met : Entry → Bool) → SourcesStand H.bytes is_met sources.items
+        → LevelsReadTo H.bytes everywhere Up is_met levels.now) }
+{
+    let span = Span {
+        lo: None,
+        hi: None,
+        closed: false,
+    };
+    let mut sources = Vec::new(alloc);
+    add_memtable(&mut sources, active, &span, Way::Up)?;
+    add_frozen(&mut sources, frozen, &span, Way::Up)?;
+    add_levels(alloc, &mut sources, levels, &span, Way::Up)?;
     Ok(sources)
 }
 

@@ -22,6 +22,7 @@ mod look;
 mod lookup;
 mod mark;
 mod share;
+mod since;
 
 pub use level::Level;
 use look::Look;

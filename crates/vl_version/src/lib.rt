@@ -19,6 +19,7 @@
 
 mod base;
 mod behind;
+mod changes;
 mod flush;
 mod found;
 mod frozen;
@@ -39,6 +40,7 @@ mod wanted;
 
 pub use base::Base;
 pub use behind::Behind;
+pub use changes::Changes;
 pub use flush::FlushedVersion;
 pub use found::Found;
 pub use levels::{Level, Levels, is_input};

@@ -21,6 +21,7 @@ ghost use Rattle.vl_version.specs.Whole.{LevelsStop, ScansWhole};
 ghost use Rattle.vl_disk.specs.declared.read_fault.ReadFault.TheVariants as why;
 ghost use Rattle.vl_version.specs.levels.LevelsLooked.{AreLaidOut};
 
+mod changes;
 mod logs;
 mod outside;
 mod past;

@@ -50,9 +50,9 @@ pub use vl_compact::{Job, JobReader, Lent};
 // What passes and merges answer where a file isn't read. `ReadFault` is the engine's, of reads into bytes that are given.
 pub use vl_disk::{Disk, HeldFile, Name, ReadFault as FileFault, Reader, Writer};
 pub use vl_engine::{
-    AtFail, BeginFail, CommitFail, Done, Engine, Found, InstallFail, KeepFail, MergeFail, MoveFail,
-    OpenError, OpenFail, PickFail, ReadFail, ReadFault, Rows, SetFail, StepFail, SweepFail, Txn,
-    View,
+    AtFail, BeginFail, Changes, CommitFail, Done, Engine, Found, InstallFail, KeepFail, MergeFail,
+    MoveFail, OpenError, OpenFail, PickFail, ReadFail, ReadFault, Rows, SetFail, StepFail,
+    SweepFail, Txn, View,
 };
 pub use vl_engine_model::{FileName, SegmentStat};
 pub use vl_folder::{FolderDisk, FolderError};

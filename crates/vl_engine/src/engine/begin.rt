@@ -1,13 +1,14 @@
-ghost use Rattle.std.specs.Prelude.{◌≡◌, [], IfOk};
+ghost use Rattle.std.specs.Prelude.{◌≡◌, ◌≤◌, [], IfOk, None};
 ghost use Rattle.vl_disk.specs.Faults.{IsNewCount};
 ghost use Rattle.vl_engine.specs.Beginning.{past_now};
 ghost use Rattle.lru.specs.LruCache.{lru_cache};
 ghost use Rattle.vl_steps.specs.Answers.{begin_outcome, view_outcome};
+ghost use Rattle.vl_reads.specs.Changes.{TellsChanges};
 ghost use Rattle.vl_reads.specs.Past.{beginning};
 ghost use Rattle.vl_version.specs.LiesOver.{IsInMemory};
 ghost use Rattle.vl_engine_laws.specs.Represents.{Fronts, Represents, StandsFor};
 ghost use Rattle.vl_reads.specs.Sees.{IsNew, Sees, SeesAlone};
-ghost use Rattle.vl_engine_laws.specs.MayStep.{Fits};
+ghost use Rattle.vl_engine_laws.specs.MayStep.{AreLogFiles, Fits};
 ghost use Rattle.vl_front.specs.Front.{IsPruned};
 ghost use Rattle.vl_engine_model.specs.AtAnswer.{beginning_of};
 ghost use Rattle.vl_engine_model.specs.Decides.{Decides, as_before, no_effects};
@@ -115,6 +116,14 @@ impl<D: Disk> Engine<D> {
         ensures sees { (h : History) (l : Layout) → StandsFor D.Held.bytes self.old.core h l
             → IfOk result (λ view. SeesAlone D.Held.bytes view h) }
 
+        // It tells what was changed since each number from `gone` on, where what is kept of dropped deletions says as much as the
+        // layout, and memtables are those of logs that can be spelled. So it is unless the engine is halted.
+        ensures tells { (h : History) (l : Layout) → StandsFor D.Held.bytes self.old.core h l → AreLogFiles l
+            → l.gone ≤ self.old.core.back.state.gone → IfOk result (λ view. TellsChanges D.Held.bytes view h) }
+        ensures tells_held { (h : History) (l : Layout) → Represents D.Held.bytes self.old.core (D.told self.old.disk) h l
+            → l.halted ≡ None → IfOk result (λ view. TellsChanges D.Held.bytes view h × (view.past.gone ≡ l.gone)) }
+        ensures gone { IfOk result (λ view. view.past.gone ≡ self.old.core.back.state.gone) }
+
         // It may read as far back as the layout has it.
         ensures began { (h : History) (l : Layout) → StandsFor D.Held.bytes self.old.core h l
             → IfOk result (λ view. beginning view.past ≡ beginning_of l h) }
@@ -185,6 +194,7 @@ fn past_of<H: HeldFile>(core: &Core<H>) -> Past
         floor: core.front.oracle.floor(),
         keep: core.back.state.keep,
         since: core.back.state.since,
+        gone: core.back.state.gone,
     }
 }
 

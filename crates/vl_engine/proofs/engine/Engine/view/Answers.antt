@@ -1,9 +1,12 @@
-use Rattle.std.proofs.Common.{◌≡◌, ℕ, ap, refl, sym, subst, true, ◌∙◌}
-use Rattle.vl_engine.proofs.Beginning.{began_as, decides_begun, decides_refused, has_room, is_full, last_begun, sees_now, ticket_is}
+use Rattle.std.proofs.Common.{◌≡◌, ℕ, ap, arith, refl, sym, subst, true, ◌∙◌}
+use Rattle.vl_engine.proofs.Beginning.{began_as, decides_begun, decides_refused, gone_kept, has_room, is_full, last_begun}
+use Rattle.vl_engine.proofs.Beginning.{sees_now, tells_now, ticket_is}
+use Rattle.vl_reads.specs.declared.past.Past.{Past}
 use Rattle.vl_steps.specs.laws.Fitting.{fit_still}
 use Rattle.vl_engine_laws.specs.laws.Knowing.{knows_of}
 use Rattle.vl_engine_laws.specs.laws.Represented.{represents_live}
 use Rattle.vl_engine_laws.specs.laws.Standing.{fronts_begun, stands_begun}
+use Rattle.vl_steps.specs.laws.InstallDisk.{files_held}
 use Rattle.vl_steps.specs.laws.Stepped.{fits_back, fits_live}
 use Rattle.vl_engine_laws.specs.Known.{are_known}
 use Rattle.vl_version.specs.LiesOver.{IsInMemory}
@@ -68,6 +71,29 @@ returns-in-Ok-begin-clause-sees g c h l is =
     (c.new.ensures.number ∙ c.last.ensures.last ∙ ap (λ (o : LiveTickets). o.last) c.in-Ok-begin.ensures.ok.1 ∙ is.fronts.front.last)
     (c.new.ensures.past ∙ c.past_of-past.ensures)
     (λ files. subst (AreKept files) (sym c.new.ensures.reader) (c.in-Ok.ensures.blocks files))
+
+pub returns-in-Ok-begin-clause-tells : goal.returns-in-Ok-begin-clause-tells
+returns-in-Ok-begin-clause-tells g c h l is files up =
+    tells_now g.D.Held.HeldFile.bytes c.args.self.now.core h l is c.new.result
+    (c.new.ensures.version ∙ c.in_ok-version.ensures.shared)
+    (c.new.ensures.number ∙ c.last.ensures.last ∙ ap (λ (o : LiveTickets). o.last) c.in-Ok-begin.ensures.ok.1
+    ∙ is.fronts.front.last)
+    (c.new.ensures.past ∙ c.past_of-past.ensures) files up
+
+pub returns-in-Ok-begin-clause-gone : goal.returns-in-Ok-begin-clause-gone
+returns-in-Ok-begin-clause-gone g c = ap (λ (p : Past). p.gone) (c.new.ensures.past ∙ c.past_of-past.ensures)
+
+pub returns-in-Ok-begin-clause-tells_held : goal.returns-in-Ok-begin-clause-tells_held
+returns-in-Ok-begin-clause-tells_held g c h l is going =
+    let core = c.args.self.now.core in
+    let gone = gone_kept g.D.Held.HeldFile.bytes core (g.D.Watched.told c.args.self.now.disk) h l is going in (
+      tells_now g.D.Held.HeldFile.bytes core h l is.stands c.new.result (c.new.ensures.version ∙ c.in_ok-version.ensures.shared)
+          (c.new.ensures.number ∙ c.last.ensures.last ∙ ap (λ (o : LiveTickets). o.last) c.in-Ok-begin.ensures.ok.1
+          ∙ is.stands.fronts.front.last)
+          (c.new.ensures.past ∙ c.past_of-past.ensures)
+          (files_held core.back (g.D.Watched.told c.args.self.now.disk) h l (is.held going)) (omega (arith, gone)),
+      ap (λ (p : Past). p.gone) (c.new.ensures.past ∙ c.past_of-past.ensures) ∙ gone,
+    )
 
 pub returns-in-Ok-begin-clause-began : goal.returns-in-Ok-begin-clause-began
 returns-in-Ok-begin-clause-began g c h l is =
