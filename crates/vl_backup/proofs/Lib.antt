@@ -1,0 +1,6 @@
+mod Batching
+mod Calls
+mod Causes
+mod Committing
+mod LoadedLaws
+mod Sending

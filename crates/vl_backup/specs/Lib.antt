@@ -1,0 +1,4 @@
+pub mod Backing
+pub mod Fails
+pub mod Loading
+pub mod Written
