@@ -1,3 +1,4 @@
+mod backups;
 mod disorder;
 mod halts;
 mod large;
